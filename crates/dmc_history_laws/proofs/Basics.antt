@@ -1,5 +1,5 @@
 -- Ids that are equal, tests, and the result of a chain of results.
-use Rattle.std.proofs.Common.{◌≡◌, ℕ, Bool, true, false, not, ◌||◌, length, Option, Some, Result, Ok, Err, refl, sym, ap, ◌∙◌, subst}
+use Rattle.std.proofs.Common.{◌≡◌, ℕ, Bool, true, false, not, ◌||◌, length, Some, Result, Ok, Err, refl, sym, ap, ◌∙◌, subst}
 use Rattle.std.specs.List.{find}
 use Rattle.std.specs.Result.{result_ok}
 use Rattle.std.proofs.lemmas.Bool.{eqb-true, eq-eqb, not-false}
@@ -13,8 +13,7 @@ use Rattle.dmc_types.specs.declared.refusal.Refusal.TheVariants.{Unknown, QueueF
 use Rattle.dmc_tag.specs.Tag.{Tagging}
 use Rattle.dmc_tag.specs.Outcome.{◌>>=◌, refuse_if}
 use Rattle.dmc_tag.specs.State.{State, PlainClient, is_client, client_named, queued_requests}
-use Rattle.dmc_tag.specs.Rules.{Outcome, share_floor, shift_of, can_shift_by, assigned, add_tags, can_add, is_over_limit}
-use Rattle.dmc_tag.specs.declared.reply.Tags.{Tags}
+use Rattle.dmc_tag.specs.Rules.{Outcome, Addition, share_floor, shift_of, can_shift_by, assigned, slack_of, addition_with, add_tags, can_add, is_over_limit}
 use Rattle.dmc_tag.proofs.TagOrder.{bound, from_option}
 use Rattle.dmc_tag.proofs.Limited.{was_tagged}
 use Rattle.dmc_tag.proofs.Ids.{client_turned}
@@ -59,35 +58,45 @@ bind_goes P (Err e) f h k = h e
 
 -- ---- what an accepted add found
 
--- the client, the shift and the tags
-record TagsGive {T : Type 0} (ops : Tagging T) (s : State T) (id : ClientId) (params : Params) (t : T) (x : Option T × Tags T) : Type 0 where
+-- the client, the shift, the tags and the slack
+record TagsGive {T : Type 0} (ops : Tagging T) (s : State T) (id : ClientId) (params : Params) (t : T) (x : Addition T) : Type 0 where
   pub client : PlainClient T
   pub named : client_named id s.clients ≡ Some client
-  pub shift : shift_of ops s.config.shares s.clients client t ≡ Ok x.0
-  pub can : can_shift_by ops x.0 s.clients ≡ true
-  pub tags : assigned ops s.config.hz client params t (share_floor ops s t) ≡ Ok x.1
+  pub shift : shift_of ops s.config.shares s.clients client t ≡ Ok x.shift
+  pub can : can_shift_by ops x.shift s.clients ≡ true
+  pub tags : assigned ops s.config.hz client params t (share_floor ops s t) ≡ Ok x.tags
+  pub slack : slack_of ops client.previous x.tags t (share_floor ops s t) ≡ x.slack
 
-tags_give : {T : Type 0} (ops : Tagging T) (s : State T) (id : ClientId) (params : Params) (t : T) (x : Option T × Tags T) → add_tags ops s id params t ≡ Ok x → TagsGive ops s id params t x
+tags_give : {T : Type 0} (ops : Tagging T) (s : State T) (id : ClientId) (params : Params) (t : T) (x : Addition T) → add_tags ops s id params t ≡ Ok x → TagsGive ops s id params t x
 tags_give ops s id params t x e =
     let c = bound (ok_or (client_named id s.clients) Unknown) _ x e in
     let full = bound (refuse_if (nat_le max_requests (length (queued_requests s.clients))) QueueFull) _ x c.2 in
     let shift = bound (shift_of ops s.config.shares s.clients c.0 t) _ x full.2 in
     let range = bound (refuse_if (not (can_shift_by ops shift.0 s.clients)) Range) _ x shift.2 in
     let tags = bound (assigned ops s.config.hz c.0 params t (share_floor ops s t)) _ x range.2 in
-    let shift_is : shift.0 ≡ x.0 = cc (tags.2) in
-    let tags_are : tags.0 ≡ x.1 = cc (tags.2) in
-    record { client = c.0; named = from_option _ _ _ c.1; shift = shift.1 ∙ ap Ok shift_is; can = subst (λ o. can_shift_by ops o s.clients ≡ true) shift_is (not-false _ (allowed _ Range range.0 range.1)); tags = tags.1 ∙ ap Ok tags_are }
+    let is : addition_with ops shift.0 c.0.previous t (share_floor ops s t) tags.0 ≡ x = cc (tags.2) in
+    let shift_is : shift.0 ≡ x.shift = ap (λ (a : Addition _). a.shift) is in
+    let tags_are : tags.0 ≡ x.tags = ap (λ (a : Addition _). a.tags) is in
+    record {
+      client = c.0;
+      named = from_option _ _ _ c.1;
+      shift = shift.1 ∙ ap Ok shift_is;
+      can = subst (λ o. can_shift_by ops o s.clients ≡ true) shift_is (not-false _ (allowed _ Range range.0 range.1));
+      tags = tags.1 ∙ ap Ok tags_are;
+      slack = ap (λ tags. slack_of ops c.0.previous tags t (share_floor ops s t)) (sym tags_are) ∙ ap (λ (a : Addition _). a.slack) is;
+    }
 
-pub record AddGives {T : Type 0} (ops : Tagging T) (s : State T) (id : ClientId) (params : Params) (at : ℕ) (x : Option T × Tags T) : Type 0 where
+pub record AddGives {T : Type 0} (ops : Tagging T) (s : State T) (id : ClientId) (params : Params) (at : ℕ) (x : Addition T) : Type 0 where
   pub client : PlainClient T
   pub named : client_named id s.clients ≡ Some client
-  pub shift : shift_of ops s.config.shares s.clients client (ops.of_moment at) ≡ Ok x.0
-  pub can : can_shift_by ops x.0 s.clients ≡ true
-  pub tags : assigned ops s.config.hz client params (ops.of_moment at) (share_floor ops s (ops.of_moment at)) ≡ Ok x.1
-  pub within : is_over_limit ops s.config.at_limit at x.1.l ≡ false
+  pub shift : shift_of ops s.config.shares s.clients client (ops.of_moment at) ≡ Ok x.shift
+  pub can : can_shift_by ops x.shift s.clients ≡ true
+  pub tags : assigned ops s.config.hz client params (ops.of_moment at) (share_floor ops s (ops.of_moment at)) ≡ Ok x.tags
+  pub slack : slack_of ops client.previous x.tags (ops.of_moment at) (share_floor ops s (ops.of_moment at)) ≡ x.slack
+  pub within : is_over_limit ops s.config.at_limit at x.tags.l ≡ false
 
-pub add_gives : {T : Type 0} (ops : Tagging T) (s : State T) (id : ClientId) (params : Params) (at : ℕ) (x : Option T × Tags T) → can_add ops s id params at ≡ Ok x → AddGives ops s id params at x
+pub add_gives : {T : Type 0} (ops : Tagging T) (s : State T) (id : ClientId) (params : Params) (at : ℕ) (x : Addition T) → can_add ops s id params at ≡ Ok x → AddGives ops s id params at x
 add_gives ops s id params at x may =
     let was = was_tagged ops s id params at x may in
     let gives = tags_give ops s id params (ops.of_moment at) x was.0 in
-    record { client = gives.client; named = gives.named; shift = gives.shift; can = gives.can; tags = gives.tags; within = was.1 }
+    record { client = gives.client; named = gives.named; shift = gives.shift; can = gives.can; tags = gives.tags; slack = gives.slack; within = was.1 }

@@ -31,7 +31,7 @@ use Rattle.dmc_history_laws.proofs.Histories.{IsSound, after_from, after-append,
 use Rattle.dmc_history_laws.proofs.InTurn.{IsGrant}
 use Rattle.dmc_history_laws.proofs.Named.{named_at}
 use Rattle.dmc_history_laws.proofs.Pairs.{AreDistinct}
-use Rattle.dmc_history_laws.proofs.Spans.{cut_at, take_one, take_both}
+use Rattle.dmc_history_laws.proofs.Parts.{cut_at, take_one, take_both}
 use Rattle.dmc_history_laws.proofs.VirtualTime.{step_goes_on, goes_on, not_under_first, not_under_second, not_under_floor}
 
 module _ {T : Type 0} (ops : Tagging T) (fraction : T → Fraction) (is_value : Fraction → Type 0) (exact : IsExact ops fraction is_value) (order : IsTotalOrder ops.compare) (config : Setting) (some : 0 < config.hz) where
@@ -107,8 +107,8 @@ module _ {T : Type 0} (ops : Tagging T) (fraction : T → Fraction) (is_value : 
         let named : client_named found.client.id s.clients ≡ Some found.client = ap (client_named found.client.id) g.whole ∙ named_at found.client.id g.front found.client g.back (subst AreDistinct g.whole is.turn.distinct) (itself_id found.client.id) in
         ap (λ o. slice_get (option_map_or (λ (c : PlainClient T). c.requests) o []) 0) named ∙ ap (λ xs. slice_get xs 0) g.first
 
-    pub weighed : (s : State T) (id : ClientId) (at : ℕ) (token : Token) (beyond : Bool) (request : QueuedRequest T) → Sound s → (step ops s (Pull at)).1 ≡ Granted id token Priority beyond → slice_get (requests_of id s.clients) 0 ≡ Some request → Weighed id at beyond request s ((step ops s (Pull at)).0)
-    weighed s id at token beyond request is e first = step_goes_on ops order s (shares_are s is) is.turn (λ c reply new. c ≡ Pull at → reply ≡ Granted id token Priority beyond → Weighed id at beyond request s new)
+    pub weighed : (s : State T) (id : ClientId) (at : ℕ) (token : Token) (beyond : Bool) (cost : ℕ) (request : QueuedRequest T) → Sound s → (step ops s (Pull at)).1 ≡ Granted id token Priority beyond cost → slice_get (requests_of id s.clients) 0 ≡ Some request → Weighed id at beyond request s ((step ops s (Pull at)).0)
+    weighed s id at token beyond cost request is e first = step_goes_on ops order s (shares_are s is) is.turn (λ c reply new. c ≡ Pull at → reply ≡ Granted id token Priority beyond cost → Weighed id at beyond request s new)
         (λ c reply new no same p e. let on = ap goes_on e in cc)
         (λ client token params at c given new named assigned now p e. cc)
         (λ now_at found amount past new g now p e.
@@ -130,8 +130,8 @@ module _ {T : Type 0} (ops : Tagging T) (fraction : T → Fraction) (is_value : 
     weighed_at history number id request replay w =
         let s = before ops config history number in
         let here = step_at history number w.event replay w.here in
-        let answer : (step ops s (Pull w.moment)).1 ≡ Granted id request.token Priority w.beyond = sym (here.reply_is ∙ ap (λ c. (step ops s c).1) w.pulls) ∙ w.grants in
-        subst (Weighed id w.moment w.beyond request s) (sym (here.next ∙ ap (λ c. (step ops s c).0) w.pulls)) (weighed s id w.moment request.token w.beyond request (sound_before history number) answer w.first)
+        let answer : (step ops s (Pull w.moment)).1 ≡ Granted id request.token Priority w.beyond request.cost = sym (here.reply_is ∙ ap (λ c. (step ops s c).1) w.pulls) ∙ w.grants in
+        subst (Weighed id w.moment w.beyond request s) (sym (here.next ∙ ap (λ c. (step ops s c).0) w.pulls)) (weighed s id w.moment request.token w.beyond request.cost request (sound_before history number) answer w.first)
 
     pub no_credit : NoCredit ops config
     no_credit = λ history replay granted arrived client other request tags w arrival later.

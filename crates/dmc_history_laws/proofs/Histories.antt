@@ -1,25 +1,26 @@
 -- Whole histories: what stays so in each, and how the requests of a client came and left.
-use Rattle.std.proofs.Common.{◌≡◌, ℕ, ◌≤◌, true, List, [], ◌∷◌, ◌++◌, map, length, drop, Option, Some, None, refl, sym, ap, ◌∙◌, subst, arith, zero, suc, ◌+◌, ◌-◌, ◌<◌, append_assoc, length-append, length-drop}
-use Rattle.std.specs.Prelude.{⊤, if◌then◌else◌}
+use Rattle.std.proofs.Common.{◌≡◌, ℕ, ◌≤◌, true, List, [], ◌∷◌, ◌++◌, map, length, take, drop, Option, Some, None, refl, sym, ap, ◌∙◌, subst, arith, zero, suc, ◌+◌, ◌-◌, ◌<◌, append_assoc, length-append, length-drop}
+use Rattle.std.specs.Prelude.{⊤, Bool, false, slice_get, if◌then◌else◌}
 use Rattle.std.specs.Cmp.{IsTotalOrder}
 use Rattle.std.specs.Option.{option_map_or}
-use Rattle.std.proofs.lemmas.List.{append-nil, length-map, map-append}
+use Rattle.std.proofs.lemmas.List.{append-nil, length-map, map-append, take-append-drop}
 use Rattle.dmc_types.specs.Values.{Params, Setting}
 use Rattle.dmc_types.specs.declared.ids.ClientId.{ClientId}
 use Rattle.dmc_types.specs.declared.ids.Token.{Token}
 use Rattle.dmc_types.specs.declared.config.Shares.{Shares}
 use Rattle.dmc_types.specs.declared.command.Command.{Command}
-use Rattle.dmc_types.specs.declared.command.Command.TheVariants.{Register, Update, Add, Pull, Remove, Clean}
+use Rattle.dmc_types.specs.declared.command.Command.TheVariants.{Register, Update, Add, Pull, Remove, Cancel, Clean}
 use Rattle.dmc_tag.specs.Tag.{Tagging, Fraction, IsExact}
 use Rattle.dmc_tag.specs.State.{State, PlainClient, is_client, client_named, requests_of, opening}
 use Rattle.dmc_tag.specs.Best.{Found}
 use Rattle.dmc_tag.specs.Rules as rules_of
 use Rattle.dmc_tag.specs.Step.{step}
 use Rattle.dmc_tag.specs.declared.plain.QueuedRequest.{QueuedRequest}
+use Rattle.dmc_tag.specs.declared.plain.Slack.{Slack}
 use Rattle.dmc_tag.specs.declared.reply.Reply.{Reply}
 use Rattle.dmc_tag.specs.declared.reply.Tags.{Tags}
 use Rattle.dmc_tag.specs.declared.reply.Reply.TheVariants.{Registered, Updated, Tagged, Granted, Later, Nothing, Removed, Cleaned, Refused}
-use Rattle.dmc_history_laws.specs.Bounds.{Arrival, arrival_of, departed, arrivals, departures, InOrderOfArrival}
+use Rattle.dmc_history_laws.specs.Bounds.{Arrival, arrival_of, departed, arrivals, departures, Asked, asked_by, asked_at, NotCancelled, NeverCancelled, InOrderIfNeverCancelled}
 use Rattle.dmc_history_laws.proofs.Becomes.{Says, IsLike, AreLike, step_becomes}
 use Rattle.dmc_history_laws.proofs.InTurn.{AreInTurn}
 use Rattle.dmc_tag.specs.Replay.{replays_from}
@@ -38,11 +39,11 @@ all_left (x ∷ xs) = all_left xs
 pub record IsKept {T X : Type 0} (ops : Tagging T) (shares : Shares) (read : QueuedRequest T → X) (mark : Arrival → Reply T → X) : Type 0 where
   pub like : (c d : PlainClient T) → IsLike shares c d → map read d.requests ≡ map read c.requests
   pub reduced : (amount : T) (r : QueuedRequest T) → read (rules_of.less_reservation ops amount r) ≡ read r
-  pub arrived : (token : Token) (params : Params) (tags : Tags T) → read (record { token = token; tags = tags }) ≡ mark (record { token = token; params = params }) (Tagged tags)
+  pub arrived : (token : Token) (params : Params) (tags : Tags T) (slack : Slack T) → read (record { token = token; cost = params.cost; tags = tags; slack = slack }) ≡ mark (record { token = token; params = params }) (Tagged tags)
 
--- so it is with tokens
-pub tokens_kept : {T : Type 0} (ops : Tagging T) (shares : Shares) → IsKept ops shares (λ (r : QueuedRequest T). r.token) (λ a _. a.token)
-tokens_kept ops shares = record { like = λ c d l. l.tokens; reduced = λ _ _. refl; arrived = λ _ _ _. refl }
+-- so it is with tokens and costs
+pub asked_kept : {T : Type 0} (ops : Tagging T) (shares : Shares) → IsKept ops shares (λ (r : QueuedRequest T). asked_by r) (λ a _. asked_at a)
+asked_kept ops shares = record { like = λ c d l. l.asked; reduced = λ _ _. refl; arrived = λ _ _ _ _. refl }
 
 module _ {T : Type 0} (ops : Tagging T) (order : IsTotalOrder ops.compare) (id : ClientId) where
   abbrev pub front : {X : Type 0} → List X → Option X
@@ -50,9 +51,9 @@ module _ {T : Type 0} (ops : Tagging T) (order : IsTotalOrder ops.compare) (id :
   front (x ∷ xs) = Some x
 
   -- a grant is of the first
-  abbrev pub Takes : Command → Reply T → List Token → Type 0
-  Takes (Pull at) (Granted client token phase beyond) tokens = is_client id client ≡ true → front tokens ≡ Some token
-  Takes c reply tokens = ⊤
+  abbrev pub Takes : Command → Reply T → List Asked → Type 0
+  Takes (Pull at) (Granted client token phase beyond cost) asked = is_client id client ≡ true → front asked ≡ Some (record { token = token; cost = cost })
+  Takes c reply asked = ⊤
 
   module _ {X : Type 0} (read : QueuedRequest T → X) (mark : Arrival → Reply T → X) where
     -- what is read of the client's queued requests
@@ -68,50 +69,54 @@ module _ {T : Type 0} (ops : Tagging T) (order : IsTotalOrder ops.compare) (id :
     marks (e ∷ es) = marks_in e.command e.reply ++ marks es
 
     abbrev pub Moves : Command → State T → Reply T → State T → Type 0
-    Moves c s reply new = (reads_of new ≡ drop (departed id c reply) (reads_of s ++ marks_in c reply)) × (departed id c reply ≤ length (reads_of s)) × Takes c reply (map (λ r. r.token) (requests_of id s.clients))
+    Moves c s reply new = NotCancelled id c reply → (reads_of new ≡ drop (departed id c reply) (reads_of s ++ marks_in c reply)) × (departed id c reply ≤ length (reads_of s)) × Takes c reply (map asked_by (requests_of id s.clients))
 
   module _ {X : Type 0} (read : QueuedRequest T → X) (mark : Arrival → Reply T → X) (s : State T) (kept : IsKept ops s.config.shares read mark) where
-    abbrev tokens : List Token
-    tokens = map (λ r. r.token) (requests_of id s.clients)
+    abbrev asked : List Asked
+    asked = map asked_by (requests_of id s.clients)
 
     -- what is read of a record
     abbrev reads_at : Option (PlainClient T) → List X
     reads_at o = map read (option_map_or (λ c. c.requests) o [])
 
-    named_reads : (new : State T) (o : Option (PlainClient T)) → client_named id new.clients ≡ o → reads_of read mark new ≡ reads_at o
+    pub named_reads : (new : State T) (o : Option (PlainClient T)) → client_named id new.clients ≡ o → reads_of read mark new ≡ reads_at o
     named_reads new o e = ap reads_at e
 
-    like_reads : (o p : Option (PlainClient T)) → AreLike s.config.shares o p → reads_at p ≡ reads_at o
+    pub like_reads : (o p : Option (PlainClient T)) → AreLike s.config.shares o p → reads_at p ≡ reads_at o
     like_reads None None h = refl
     like_reads None (Some d) h = absurd h
     like_reads (Some c) None h = ap (map read) (sym h)
     like_reads (Some c) (Some d) h = kept.like c d h
 
-    moved : (c : Command) (reply : Reply T) (new : State T) (came : List Arrival) (left prior : ℕ) → Says id c reply came left prior → reads_of read mark new ≡ drop left (reads_of read mark s ++ map (λ a. mark a reply) came) → left ≤ length (reads_of read mark s) → Takes c reply tokens → Moves read mark c s reply new
-    moved c reply new came left prior says now within takes = (
+    moved : (c : Command) (reply : Reply T) (new : State T) (came : List Arrival) (left prior : ℕ) → Says id c reply came left prior → reads_of read mark new ≡ drop left (reads_of read mark s ++ map (λ a. mark a reply) came) → left ≤ length (reads_of read mark s) → Takes c reply asked → Moves read mark c s reply new
+    moved c reply new came left prior says now within takes = λ _. (
       now ∙ ap (λ n. drop n (reads_of read mark s ++ map (λ a. mark a reply) came)) (sym says.left_is) ∙ ap (λ them. drop (departed id c reply) (reads_of read mark s ++ map (λ a. mark a reply) them)) (sym says.came_is),
       subst (λ n. n ≤ length (reads_of read mark s)) (sym says.left_is) within,
       takes,
     )
 
     -- a grant of another client takes none
-    takes_none : (c : Command) (reply : Reply T) → departed id c reply ≡ 0 → Takes c reply tokens
+    takes_none : (c : Command) (reply : Reply T) → departed id c reply ≡ 0 → Takes c reply asked
     takes_none (Register client info at) reply e = tt
     takes_none (Update client info at) reply e = tt
     takes_none (Add client token params at) reply e = tt
     takes_none (Pull at) Registered e = tt
     takes_none (Pull at) Updated e = tt
     takes_none (Pull at) (Tagged tags) e = tt
-    takes_none (Pull at) (Granted client token phase beyond) e = λ own. let one : 1 ≡ 0 = sym (ap (λ b. if b then 1 else 0) own) ∙ e in absurd (omega (arith, one))
+    takes_none (Pull at) (Granted client token phase beyond cost) e = λ own. let one : 1 ≡ 0 = sym (ap (λ b. if b then 1 else 0) own) ∙ e in absurd (omega (arith, one))
     takes_none (Pull at) (Later m) e = tt
     takes_none (Pull at) Nothing e = tt
     takes_none (Pull at) (Removed count) e = tt
     takes_none (Pull at) (Cleaned idled erased) e = tt
     takes_none (Pull at) (Refused refusal) e = tt
     takes_none (Remove client) reply e = tt
+    takes_none (Cancel client token counting) reply e = tt
     takes_none (Clean at) reply e = tt
 
-    reduced_reads : (found : Found T) (amount : Option T) → map read (rules_of.after_grant ops found amount).requests ≡ map read found.others
+    not_both : {Q : Type 0} {b : Bool} → b ≡ false → b ≡ true → Q
+    not_both p q = cc
+
+    pub reduced_reads : (found : Found T) (amount : Option T) → map read (rules_of.after_grant ops found amount).requests ≡ map read found.others
     reduced_reads found None = refl
     reduced_reads found (Some amount) = same found.others where
       same : (xs : List (QueuedRequest T)) → map read (map (rules_of.less_reservation ops amount) xs) ≡ map read xs
@@ -120,18 +125,19 @@ module _ {T : Type 0} (ops : Tagging T) (order : IsTotalOrder ops.compare) (id :
 
     pub step_moves : (c : Command) → AreInTurn ops order s → Moves read mark c s ((step ops s c).1) ((step ops s c).0)
     step_moves c is = step_becomes ops order id s is (λ c reply new. Moves read mark c s reply new)
-        (λ c reply new o says like next. moved c reply new [] 0 0 says (named_reads new o next.named ∙ like_reads _ o like ∙ none_left _) (omega arith) (takes_none c reply says.left_is))
+        (λ c reply new o says stay like next. moved c reply new [] 0 0 says (named_reads new o next.named ∙ like_reads _ o like ∙ none_left _) (omega arith) (takes_none c reply says.left_is))
         (λ client info at new own none next. moved (Register client info at) Registered new [] 0 0 (record { came_is = refl; left_is = refl; prior_is = refl }) (named_reads new _ next.named ∙ ap (λ ts. ts ++ []) (sym (named_reads s None none))) (omega arith) tt)
         (λ client info at new c own named next. moved (Update client info at) Updated new [] 0 0 (record { came_is = refl; left_is = refl; prior_is = refl }) (named_reads new _ next.named ∙ sym (named_reads s (Some c) named) ∙ none_left _) (omega arith) tt)
-        (λ client token params at new c d tags says named like assigned next last. moved (Add client token params at) (Tagged tags) new _ 0 0 says (named_reads new _ next.named ∙ map-append read d.requests _ ∙ ap (λ x. map read d.requests ++ x ∷ []) (kept.arrived token params tags) ∙ ap (λ ts. ts ++ mark (record { token = token; params = params }) (Tagged tags) ∷ []) (kept.like c d like ∙ sym (named_reads s (Some c) named))) (omega arith) tt)
+        (λ client token params at new c d tags slack says named like assigned next last slack_is. moved (Add client token params at) (Tagged tags) new _ 0 0 says (named_reads new _ next.named ∙ map-append read d.requests _ ∙ ap (λ x. map read d.requests ++ x ∷ []) (kept.arrived token params tags slack) ∙ ap (λ ts. ts ++ mark (record { token = token; params = params }) (Tagged tags) ∷ []) (kept.like c d like ∙ sym (named_reads s (Some c) named))) (omega arith) tt)
         (λ at new found amount phase beyond says g named next.
         let here : reads_of read mark s ≡ read found.request ∷ map read found.others = named_reads s (Some found.client) named ∙ ap (map read) g.first in
-        let first : tokens ≡ found.request.token ∷ map (λ r. r.token) found.others = ap (λ o. map (λ (r : QueuedRequest T). r.token) (option_map_or (λ (c : PlainClient T). c.requests) o [])) named ∙ ap (map (λ r. r.token)) g.first in
+        let first : asked ≡ asked_by found.request ∷ map asked_by found.others = ap (λ o. map asked_by (option_map_or (λ (c : PlainClient T). c.requests) o [])) named ∙ ap (map asked_by) g.first in
         moved (Pull at) (rules_of.granted found phase beyond) new [] 1 _ says (named_reads new _ next.named ∙ reduced_reads found amount ∙ none_left _ ∙ ap (λ ts. drop 1 (ts ++ [])) (sym here)) (subst (λ ts. 1 ≤ length ts) (sym here) (omega arith)) (λ own. ap front first))
-        (λ client new c says named next.
+        (λ client new c own says named next.
         let here = named_reads s (Some c) named in
         let size : length (reads_of read mark s) ≡ length c.requests = ap length here ∙ length-map c.requests read in
         moved (Remove client) (Removed (length c.requests)) new [] (length c.requests) 0 says (named_reads new _ next.named ∙ all_left (reads_of read mark s) ∙ ap (λ n. drop n (reads_of read mark s ++ [])) size) (omega arith) tt)
+        (λ client token counting new c own named next never. not_both never own)
         c
 
 -- ---- lists
@@ -155,10 +161,20 @@ module _ {T : Type 0} (ops : Tagging T) where
   replays_split s [] ys h = (tt, h)
   replays_split s (x ∷ xs) ys h = let more = replays_split ((step ops s x.command).0) xs ys h.1 in ((h.0, more.0), more.1)
 
+-- ---- a client that is never cancelled
+
 module _ {T : Type 0} (id : ClientId) where
-  pub departures-append : (xs ys : List (Event T)) → departures id (xs ++ ys) ≡ departures id xs + departures id ys
-  departures-append [] ys = omega arith
-  departures-append (x ∷ xs) ys = let more = departures-append xs ys in omega arith
+  pub never_split : (xs ys : List (Event T)) → NeverCancelled id (xs ++ ys) → NeverCancelled id xs × NeverCancelled id ys
+  never_split [] ys h = (tt, h)
+  never_split (x ∷ xs) ys h = let more = never_split xs ys h.1 in ((h.0, more.0), more.1)
+
+  pub never_to : (n : ℕ) (history : List (Event T)) → NeverCancelled id history → NeverCancelled id (take n history)
+  never_to n history h = (never_split (take n history) (drop n history) (subst (NeverCancelled id) (sym (take-append-drop n history)) h)).0
+
+  pub never_at : (n : ℕ) (history : List (Event T)) (e : Event T) → NeverCancelled id history → slice_get history n ≡ Some e → NotCancelled id e.command e.reply
+  never_at n [] e h here = cc
+  never_at zero (x ∷ xs) e h here = let same : x ≡ e = cc in subst (λ z. NotCancelled id z.command z.reply) same h.0
+  never_at (suc n) (x ∷ xs) e h here = never_at n xs e h.1 here
 
 -- ---- what stays so
 
@@ -191,14 +207,14 @@ module _ {T : Type 0} (ops : Tagging T) (fraction : T → Fraction) (is_value : 
       came es = marks ops order id read mark es
 
       -- queued are those before and those that came, without as many as left; and no more leave than there are
-      pub marks_after : (s : State T) (es : List (Event T)) → IsSound s → replays_from ops s es → (reads (after_from ops s es) ≡ drop (departures id es) (reads s ++ came es)) × (departures id es ≤ length (reads s) + length (arrivals id es))
-      marks_after s [] is h = (none_left _, omega arith)
-      marks_after s (e ∷ es) is h =
+      pub marks_after : (s : State T) (es : List (Event T)) → IsSound s → replays_from ops s es → NeverCancelled id es → (reads (after_from ops s es) ≡ drop (departures id es) (reads s ++ came es)) × (departures id es ≤ length (reads s) + length (arrivals id es))
+      marks_after s [] is h never = (none_left _, omega arith)
+      marks_after s (e ∷ es) is h never =
           let next = (step ops s e.command).0 in
-          let moves = marks_move s e is h.0 in
+          let moves = marks_move s e is h.0 never.0 in
           let now = marks_in ops order id read mark e.command e.reply in
           let d = departed id e.command e.reply in
-          let rest = marks_after next es (sound_step s e.command is) h.1 in (
+          let rest = marks_after next es (sound_step s e.command is) h.1 never.1 in (
             rest.0
                 ∙ ap (λ ts. drop (departures id es) (ts ++ came es)) moves.0
                 ∙ drop-more d (departures id es) (reads s ++ now) (came es) (longer d (reads s) now moves.1)
@@ -209,38 +225,38 @@ module _ {T : Type 0} (ops : Tagging T) (fraction : T → Fraction) (is_value : 
           counts : (next here now : List X) (mine later : List Arrival) (d ds : ℕ) → length next ≡ length (drop d (here ++ now)) → d ≤ length here → ds ≤ length next + length later → length now ≡ length mine → d + ds ≤ length here + length (mine ++ later)
           counts next here now mine later d ds e h k n = omega (arith, length-drop d (here ++ now), length-append here now, length-append mine later)
 
-    -- ---- the tokens of the queued requests
+    -- ---- the tokens and costs of the queued requests
 
-    abbrev token_mark : Arrival → Reply T → Token
-    token_mark a reply = a.token
+    abbrev asked_mark : Arrival → Reply T → Asked
+    asked_mark a reply = asked_at a
 
-    abbrev pub queued : State T → List Token
-    queued s = map (λ r. r.token) (requests_of id s.clients)
+    abbrev pub queued : State T → List Asked
+    queued s = map asked_by (requests_of id s.clients)
 
-    abbrev pub sent : List Arrival → List Token
-    sent qs = map (λ (a : Arrival). a.token) qs
+    abbrev pub sent : List Arrival → List Asked
+    sent qs = map asked_at qs
 
-    pub event_moves : (s : State T) (e : Event T) → IsSound s → e.reply ≡ (step ops s e.command).1 → Moves ops order id (λ r. r.token) token_mark e.command s e.reply ((step ops s e.command).0)
-    event_moves = marks_move (λ r. r.token) token_mark (tokens_kept ops config.shares)
+    pub event_moves : (s : State T) (e : Event T) → IsSound s → e.reply ≡ (step ops s e.command).1 → Moves ops order id asked_by asked_mark e.command s e.reply ((step ops s e.command).0)
+    event_moves = marks_move asked_by asked_mark (asked_kept ops config.shares)
 
-    sent_are : (es : List (Event T)) → marks ops order id (λ r. r.token) token_mark es ≡ sent (arrivals id es)
+    sent_are : (es : List (Event T)) → marks ops order id asked_by asked_mark es ≡ sent (arrivals id es)
     sent_are [] = refl
-    sent_are (e ∷ es) = ap (λ ts. sent (arrival_of id e.command e.reply) ++ ts) (sent_are es) ∙ sym (map-append (λ (a : Arrival). a.token) (arrival_of id e.command e.reply) (arrivals id es))
+    sent_are (e ∷ es) = ap (λ ts. sent (arrival_of id e.command e.reply) ++ ts) (sent_are es) ∙ sym (map-append asked_at (arrival_of id e.command e.reply) (arrivals id es))
 
-    pub tokens_after : (s : State T) (es : List (Event T)) → IsSound s → replays_from ops s es → (queued (after_from ops s es) ≡ drop (departures id es) (queued s ++ sent (arrivals id es))) × (departures id es ≤ length (queued s) + length (arrivals id es))
-    tokens_after s es is h = let all = marks_after (λ r. r.token) token_mark (tokens_kept ops config.shares) s es is h in (all.0 ∙ ap (λ ts. drop (departures id es) (queued s ++ ts)) (sent_are es), all.1)
+    pub asked_after : (s : State T) (es : List (Event T)) → IsSound s → replays_from ops s es → NeverCancelled id es → (queued (after_from ops s es) ≡ drop (departures id es) (queued s ++ sent (arrivals id es))) × (departures id es ≤ length (queued s) + length (arrivals id es))
+    asked_after s es is h never = let all = marks_after asked_by asked_mark (asked_kept ops config.shares) s es is h never in (all.0 ∙ ap (λ ts. drop (departures id es) (queued s ++ ts)) (sent_are es), all.1)
 
     -- how many are queued
-    pub queued_is : (es : List (Event T)) → replays_from ops (opening ops config) es → (length (queued (after_from ops (opening ops config) es)) ≡ length (arrivals id es) - departures id es) × (departures id es ≤ length (arrivals id es))
-    queued_is es h =
-        let after = tokens_after (opening ops config) es sound_opening h in
-        (ap length after.0 ∙ sizes (departures id es) (sent (arrivals id es)) (length-map (arrivals id es) (λ (a : Arrival). a.token)), within after.1)
+    pub queued_is : (es : List (Event T)) → replays_from ops (opening ops config) es → NeverCancelled id es → (length (queued (after_from ops (opening ops config) es)) ≡ length (arrivals id es) - departures id es) × (departures id es ≤ length (arrivals id es))
+    queued_is es h never =
+        let after = asked_after (opening ops config) es sound_opening h never in
+        (ap length after.0 ∙ sizes (departures id es) (sent (arrivals id es)) (length-map (arrivals id es) asked_at), within after.1)
       where
-        sizes : (d : ℕ) (xs : List Token) → length xs ≡ length (arrivals id es) → length (drop d xs) ≡ length (arrivals id es) - d
+        sizes : (d : ℕ) (xs : List Asked) → length xs ≡ length (arrivals id es) → length (drop d xs) ≡ length (arrivals id es) - d
         sizes d xs e = omega (arith, length-drop d xs)
 
         within : departures id es ≤ 0 + length (arrivals id es) → departures id es ≤ length (arrivals id es)
         within h = omega arith
 
-  pub in_order_of_arrival : InOrderOfArrival ops config
-  in_order_of_arrival = λ id events replay. (tokens_after id (opening ops config) events sound_opening replay).0
+  pub in_order_if_never_cancelled : InOrderIfNeverCancelled ops config
+  in_order_if_never_cancelled = λ id events replay never. (asked_after id (opening ops config) events sound_opening replay never).0

@@ -33,6 +33,7 @@ use Rattle.dmc_lemmas.proofs.Orderings.{less_if_lt}
 use Rattle.dmc_tag.proofs.Upto.{IsUpto, at_most_itself, due_before}
 use Rattle.dmc_tag.proofs.TagOrder.{bound}
 use Rattle.dmc_history_laws.proofs.Basics.{bind_goes, allowed}
+use Rattle.dmc_history_laws.proofs.Falling.{IsSlack}
 use Rattle.dmc_history_laws.proofs.Pairs.{Pairwise, AreDistinct, pairs_at}
 
 -- what is not above is not behind
@@ -59,9 +60,12 @@ module _ {T : Type 0} (ops : Tagging T) (order : IsTotalOrder ops.compare) where
     pub l : AtMost ops tags.l previous.l
     pub p : AtMost ops tags.p previous.p
 
+  -- nor is a slack below 0
   pub record IsInTurn (c : PlainClient T) : Type 0 where
     pub pairs : Pairwise InOrder c.requests
     pub follows : AllByRecursion (λ x. Follows c.idle c.info c.previous x.tags) c.requests
+    pub slacks : AllByRecursion (λ x. IsSlack ops x.slack) c.requests
+    pub left : IsSlack ops c.previous.slack
 
   pub record AreInTurn (s : State T) : Type 0 where
     pub clients : AllByRecursion IsInTurn s.clients
@@ -133,14 +137,14 @@ pub record IsGrant {T : Type 0} (ops : Tagging T) (s : State T) (t : ℕ) (found
   pub due : IsDueIn ops t phase beyond found.request
   -- a grant by weight is of the least P in its set
   pub least : phase ≡ Priority → AllByRecursion (λ c. AllByRecursion (λ x. IsDueIn ops t Priority beyond x → AtMost ops found.request.tags.p x.tags.p) c.requests) s.clients
-  pub reduction : IsReduction ops s.config.hz found.client phase amount
+  pub reduction : IsReduction ops s.config.hz found.client found.request.cost phase amount
   pub can : rules_of.can_reduce_by ops amount (rules_of.with_requests found.others found.client) ≡ true
 
 -- What holds of each of these holds of every pull.
 module _ {T : Type 0} (ops : Tagging T) (order : IsTotalOrder ops.compare) (s : State T) (t : ℕ) (turn : AllByRecursion (IsInTurn ops order) s.clients) (P : Outcome T → Type 0) (refused : (e : Refusal) → P (Err e)) (waits : (m : ℕ) → P (Ok (record s { last_moment = t }, Later m))) (idles : P (Ok (record s { last_moment = t }, Nothing))) (grants : (found : Found T) (amount : Option T) (phase : PhaseType) (beyond : Bool) → IsGrant ops s t found amount phase beyond → P (Ok (rules_of.taken_out ops s t found phase amount, rules_of.granted found phase beyond))) where
   priority : (member : QueuedRequest T → Bool) (beyond : Bool) (found : Found T) → ((x : QueuedRequest T) → IsDueIn ops t Priority beyond x → member x ≡ true) → IsBestOfAll ops by_weight member s.clients found → found.client.requests ≡ found.request ∷ found.others → IsDueIn ops t Priority beyond found.request → P (rules_of.grant_priority ops s t found beyond)
   priority member beyond found set is first due = bind_goes P (rules_of.can_grant ops s.config.hz found) _ refused (λ amount e.
-      let given = bound (rules_of.reduction_at ops s.config.hz found.client.info.reservation) _ amount e in
+      let given = bound (rules_of.reduction_at ops s.config.hz found.client.info.reservation found.request.cost) _ amount e in
       let range = bound (refuse_if (not (rules_of.can_reduce_by ops given.0 (rules_of.with_requests found.others found.client))) Range) _ amount given.2 in
       let same : given.0 ≡ amount = cc (range.2) in
       grants found amount Priority beyond (record {

@@ -1,20 +1,23 @@
 -- Fractions that are not below a whole number of ticks over a rate, and what assignment keeps of that.
 use Rattle.std.proofs.Common.{◌≡◌, ℕ, ◌*◌, ◌<◌, ◌≤◌, Bool, true, false, cond, not, Some, refl, sym, ap, ◌∙◌, subst, arith}
-use Rattle.std.specs.Prelude.{ℤ, pos, ◌+ℤ◌, ◌-ℤ◌, ◌*ℤ◌, ◌≤ℤ◌, neg_ℤ, Ok}
-use Rattle.std.specs.declared.cmp.Ordering.{Ordering}
-use Rattle.std.specs.declared.cmp.Ordering.TheVariants.{Less, Equal, Greater}
-use Rattle.std.specs.Ordering.{is_gt, is_lt, ord_max}
+use Rattle.std.specs.Prelude.{ℤ, pos, ◌+ℤ◌, ◌*ℤ◌, ◌≤ℤ◌, Ok}
+use Rattle.std.specs.Ordering.{is_lt, ord_max}
 use Rattle.std.specs.Cmp.{IsTotalOrder}
 use Rattle.std.proofs.lemmas.Int.{ints}
 use Rattle.std.proofs.Math.IntN.{*ℤ_comm}
 use Rattle.dmc_tag.specs.Tag.{Fraction, Tagging, IsExact, IsSame, ratio}
-use Rattle.dmc_tag.specs.Order.{AtMost}
 use Rattle.dmc_tag.specs.Outcome.{in_range}
 use Rattle.dmc_tag.specs.Rules.{next_tag}
 use Rattle.dmc_tag.specs.Best.{is_due}
 use Rattle.std.proofs.Math.Nat.{mul-le-mul_left}
-use Rattle.dmc_tag.proofs.Scaled.{scaled_twice, scaled_sum, scaled_negative, scaled_le, unscaled_le, cancelled, scaled_swapped, times_one}
-use Rattle.dmc_tag.proofs.TagOrder.{positive, bound, from_range, at_most_to, given, not_behind}
+use Rattle.dmc_tag.proofs.Scaled.{scaled_twice, scaled_sum, scaled_le, unscaled_le, cancelled, scaled_swapped, times_one}
+use Rattle.dmc_tag.proofs.TagOrder.{positive, bound, from_range, at_most_to, given}
+
+-- the amount is so many spacings of the rate
+pub record IsSpacings {T : Type 0} (ops : Tagging T) (hz q count : ℕ) (amount : T) : Type 0 where
+  pub spacing : T
+  pub spaced : ops.spacing hz q ≡ Some spacing
+  pub steps : ops.steps spacing count ≡ Some amount
 
 -- the fraction is not below m/q
 pub record NotBelow (f : Fraction) (m : ℤ) (q : ℕ) : Type 0 where
@@ -78,14 +81,11 @@ moved a x d z m k q same worth =
 joined : (x y u v w : ℤ) → x ≡ u +ℤ w → y ≡ v +ℤ w → u ≤ℤ v → x ≤ℤ y
 joined x y u v w p q h = omega (arith, ints)
 
-moved_up : (a x : Fraction) (d : ℕ) (m k : ℤ) (q : ℕ) → 0 < a.denom → 0 < d → Moved a x d m k q → NotBelow a m q → NotBelow x (m +ℤ k) q
-moved_up a x d m k q some_a some_d is h = record { le = unscaled_le _ _ (a.denom * d) (positive _ _ some_a some_d) (joined _ _ _ _ _ is.left is.right (scaled_le _ _ x.denom (scaled_le _ _ d h.le))) }
-
 moved_under : (a x : Fraction) (d : ℕ) (m k : ℤ) (q : ℕ) → 0 < a.denom → 0 < d → Moved a x d m k q → NotAbove a m q → NotAbove x (m +ℤ k) q
 moved_under a x d m k q some_a some_d is h = record { le = unscaled_le _ _ (a.denom * d) (positive _ _ some_a some_d) (joined _ _ _ _ _ is.right is.left (scaled_le _ _ x.denom (scaled_le _ _ d h.le))) }
 
 -- what is at most less is at most more, and what is at most the fraction is so too
-at_most_more : (f : Fraction) (m k : ℤ) (q : ℕ) → m ≤ℤ k → NotAbove f m q → NotAbove f k q
+pub at_most_more : (f : Fraction) (m k : ℤ) (q : ℕ) → m ≤ℤ k → NotAbove f m q → NotAbove f k q
 at_most_more f m k q le h = record { le = le_trans _ _ _ h.le (scaled_le _ _ f.denom le) }
 
 pub under_as : (f g : Fraction) (m : ℤ) (q : ℕ) → 0 < g.denom → (f.numer *ℤ pos g.denom) ≤ℤ (g.numer *ℤ pos f.denom) → NotAbove g m q → NotAbove f m q
@@ -95,16 +95,9 @@ under_as f g m q some le h = record { le = (raised g (record { numer = m; denom 
 worth_over : (a d : Fraction) (q n : ℕ) → d.numer *ℤ pos q ≡ pos n *ℤ pos d.denom → (d.numer *ℤ pos a.denom) *ℤ pos q ≡ pos n *ℤ pos (a.denom * d.denom)
 worth_over a d q n worth = scaled_swapped d.numer a.denom q ∙ ap (λ w. w *ℤ pos a.denom) worth ∙ scaled_swapped (pos n) d.denom a.denom ∙ scaled_twice (pos n) a.denom d.denom
 
--- more by n, if n over the rate is added, and less, if it is taken off
+-- more by n, if n over the rate is added
 added : (a d x : Fraction) (m : ℤ) (q n : ℕ) → x.numer *ℤ pos (a.denom * d.denom) ≡ (a.numer *ℤ pos d.denom +ℤ d.numer *ℤ pos a.denom) *ℤ pos x.denom → d.numer *ℤ pos q ≡ pos n *ℤ pos d.denom → Moved a x d.denom m (pos n) q
 added a d x m q n same worth = moved a x d.denom (d.numer *ℤ pos a.denom) m (pos n) q same (worth_over a d q n worth)
-
-taken_off : (a d x : Fraction) (m : ℤ) (q n : ℕ) → x.numer *ℤ pos (a.denom * d.denom) ≡ (a.numer *ℤ pos d.denom -ℤ d.numer *ℤ pos a.denom) *ℤ pos x.denom → d.numer *ℤ pos q ≡ pos n *ℤ pos d.denom → Moved a x d.denom m (neg_ℤ (pos n)) q
-taken_off a d x m q n same worth = moved a x d.denom (neg_ℤ (d.numer *ℤ pos a.denom)) m (neg_ℤ (pos n)) q same (scaled_negative (d.numer *ℤ pos a.denom) q ∙ ap neg_ℤ (worth_over a d q n worth) ∙ sym (scaled_negative (pos n) (a.denom * d.denom)))
-
--- what is not below more is not below less
-pub lowered : (f : Fraction) (m k : ℤ) (q : ℕ) → k ≤ℤ m → NotBelow f m q → NotBelow f k q
-lowered f m k q le h = record { le = le_trans _ _ _ (scaled_le _ _ f.denom le) h.le }
 
 module _ {T : Type 0} (ops : Tagging T) (fraction : T → Fraction) (is_value : Fraction → Type 0) (exact : IsExact ops fraction is_value) where
   -- a moment is not below an earlier one
@@ -135,9 +128,12 @@ module _ {T : Type 0} (ops : Tagging T) (fraction : T → Fraction) (is_value : 
   pub spacing_worth : (hz q : ℕ) (s : T) → ops.spacing hz q ≡ Some s → IsSame (fraction s) (ratio hz q)
   spacing_worth hz q s e = given ops fraction is_value exact (ops.spacing hz q) _ s (exact.spacing hz q) e
 
-  -- a tag less a spacing
-  pub less_by : (a amount x : T) (m : ℤ) (hz q : ℕ) → ops.spacing hz q ≡ Some amount → ops.minus a amount ≡ Some x → NotBelow (fraction a) m q → NotBelow (fraction x) (m -ℤ pos hz) q
-  less_by a amount x m hz q s e h = moved_up (fraction a) (fraction x) (fraction amount).denom m (neg_ℤ (pos hz)) q (exact.denom a) (exact.denom amount) (taken_off (fraction a) (fraction amount) (fraction x) m q hz (given ops fraction is_value exact (ops.minus a amount) _ x (exact.minus a amount) e) (spacing_worth hz q amount s)) h
+  -- k steps of a spacing are worth k*hz over the rate
+  pub steps_of : (hz q k : ℕ) (spacing amount : T) → IsSame (fraction spacing) (ratio hz q) → ops.steps spacing k ≡ Some amount → (fraction amount).numer *ℤ pos q ≡ pos (hz * k) *ℤ pos (fraction amount).denom
+  steps_of hz q k spacing amount s e =
+      let fs = fraction spacing in
+      let fa = fraction amount in
+      steps_worth fa.numer fs.numer fa.denom fs.denom k hz q (exact.denom spacing) (given ops fraction is_value exact (ops.steps spacing k) _ amount (exact.steps spacing k) e) s
 
   module _ (order : IsTotalOrder ops.compare) where
     -- the next tag is the greater of t and a sum, which is more by k*hz
@@ -152,9 +148,8 @@ module _ {T : Type 0} (ops : Tagging T) (fraction : T → Fraction) (is_value : 
     nexts previous spacing tag t m hz q k s e =
         let step = bound (in_range (ops.steps spacing k)) _ tag e in
         let sum = bound (in_range (ops.plus previous step.0)) _ tag step.2 in
-        let fs = fraction spacing in
         let fd = fraction step.0 in
-        let worth = steps_worth fd.numer fs.numer fd.denom fs.denom k hz q (exact.denom spacing) (given ops fraction is_value exact (ops.steps spacing k) _ step.0 (exact.steps spacing k) (from_range _ _ step.1)) s in
+        let worth = steps_of hz q k spacing step.0 s (from_range _ _ step.1) in
         record {
           sum = sum.0;
           tag_is = cc (sum.2);
@@ -163,41 +158,12 @@ module _ {T : Type 0} (ops : Tagging T) (fraction : T → Fraction) (is_value : 
           more = added (fraction previous) fd (fraction sum.0) m q (hz * k) (given ops fraction is_value exact (ops.plus previous step.0) _ sum.0 (exact.plus previous step.0) (from_range _ _ sum.1)) worth;
         }
 
-    -- so it is more by as much, at least
-    pub next_paced : (previous spacing tag t : T) (m : ℤ) (hz q k : ℕ) → IsSame (fraction spacing) (ratio hz q) → next_tag ops previous k spacing t ≡ Ok tag → NotBelow (fraction previous) m q → NotBelow (fraction tag) (m +ℤ pos (hz * k)) q
-    next_paced previous spacing tag t m hz q k s e h =
-        let n = nexts previous spacing tag t m hz q k s e in
-        let up = moved_up (fraction previous) (fraction n.sum) n.d m _ q (exact.denom previous) n.some n.more h in
-        subst (λ x. NotBelow (fraction x) (m +ℤ pos (hz * k)) q) n.tag_is (greater n.sum _ refl up) where
-          greater : (sum : T) (b : Bool) → is_lt (ops.compare t sum) ≡ b → NotBelow (fraction sum) (m +ℤ pos (hz * k)) q → NotBelow (fraction (cond b sum t)) (m +ℤ pos (hz * k)) q
-          greater sum true e h = h
-          greater sum false e h = raised (fraction sum) (fraction t) _ q (exact.denom sum) (at_most_to ops fraction is_value exact sum t (not_behind ops fraction is_value exact order sum t _ refl e)) h
-
-    -- and at most, if t is not above the previous tag
-    pub next_at_most : (previous spacing tag t : T) (m : ℤ) (hz q k : ℕ) → IsSame (fraction spacing) (ratio hz q) → next_tag ops previous k spacing t ≡ Ok tag → AtMost ops t previous → NotAbove (fraction previous) m q → NotAbove (fraction tag) (m +ℤ pos (hz * k)) q
-    next_at_most previous spacing tag t m hz q k s e under h =
+    -- and so it is if t is not above that
+    pub next_under : (previous spacing tag t : T) (m : ℤ) (hz q k : ℕ) → IsSame (fraction spacing) (ratio hz q) → next_tag ops previous k spacing t ≡ Ok tag → NotAbove (fraction t) (m +ℤ pos (hz * k)) q → NotAbove (fraction previous) m q → NotAbove (fraction tag) (m +ℤ pos (hz * k)) q
+    next_under previous spacing tag t m hz q k s e under h =
         let n = nexts previous spacing tag t m hz q k s e in
         let up = moved_under (fraction previous) (fraction n.sum) n.d m _ q (exact.denom previous) n.some n.more h in
         subst (λ x. NotAbove (fraction x) (m +ℤ pos (hz * k)) q) n.tag_is (greater n.sum (is_lt (ops.compare t n.sum)) up) where
           greater : (sum : T) (b : Bool) → NotAbove (fraction sum) (m +ℤ pos (hz * k)) q → NotAbove (fraction (cond b sum t)) (m +ℤ pos (hz * k)) q
           greater sum true h = h
-          greater sum false _ = at_most_more (fraction t) m _ q (more m (hz * k)) (under_as (fraction t) (fraction previous) m q (exact.denom previous) (at_most_to ops fraction is_value exact t previous under) h) where
-            more : (m : ℤ) (n : ℕ) → m ≤ℤ (m +ℤ pos n)
-            more m n = omega (arith, ints)
-
-    -- and not below the moment
-    pub next_from : (previous spacing tag : T) (t hz q k : ℕ) → next_tag ops previous k spacing (ops.of_moment t) ≡ Ok tag → NotBelow (fraction tag) (pos (q * t)) q
-    next_from previous spacing tag t hz q k e =
-        let now = ops.of_moment t in
-        let step = bound (in_range (ops.steps spacing k)) _ tag e in
-        let sum = bound (in_range (ops.plus previous step.0)) _ tag step.2 in
-        let tag_is : ord_max ops.compare sum.0 now ≡ tag = cc (sum.2) in
-        subst (λ x. NotBelow (fraction x) (pos (q * t)) q) tag_is (greater sum.0 _ refl) where
-          under : (a b : T) (r : Ordering) → ops.compare a b ≡ r → is_lt r ≡ true → AtMost ops a b
-          under a b Less e h = ap is_gt e
-          under a b Equal e h = cc
-          under a b Greater e h = cc
-
-          greater : (sum : T) (b : Bool) → is_lt (ops.compare (ops.of_moment t) sum) ≡ b → NotBelow (fraction (cond b sum (ops.of_moment t))) (pos (q * t)) q
-          greater sum true e = raised (fraction (ops.of_moment t)) (fraction sum) _ q (exact.denom (ops.of_moment t)) (at_most_to ops fraction is_value exact (ops.of_moment t) sum (under _ _ _ refl e)) (moment_from t t q (omega arith))
-          greater sum false e = moment_from t t q (omega arith)
+          greater sum false _ = under

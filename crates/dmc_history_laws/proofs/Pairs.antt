@@ -5,7 +5,7 @@ use Rattle.std.specs.List.{AllByRecursion, find, list_any}
 use Rattle.dmc_types.specs.declared.ids.ClientId.{ClientId}
 use Rattle.dmc_tag.specs.State.{PlainClient, is_client, client_named}
 use Rattle.dmc_lemmas.proofs.Booleans.{eqb_turned}
-use Rattle.dmc_lemmas.proofs.Lists.{all_both, all_mapped, all_at, all_without, all_filtered, all_append}
+use Rattle.dmc_lemmas.proofs.Lists.{all_as, all_both, all_mapped, all_at, all_without, all_filtered, all_append}
 use Rattle.dmc_history_laws.proofs.Basics.{both_id}
 
 module _ {X : Type 0} where
@@ -37,6 +37,14 @@ module _ {X : Type 0} where
   pub pairs_mapped : (S R : X → X → Type 0) (P : X → Type 0) (f : X → X) → ((x y : X) → P x → P y → S x y → R (f x) (f y)) → (xs : List X) → AllByRecursion P xs → Pairwise S xs → Pairwise R (map f xs)
   pairs_mapped S R P f k [] p h = tt
   pairs_mapped S R P f k (x ∷ xs) p h = (all_mapped (λ y. P y × S x y) (R (f x)) f (λ y q. k x y p.0 q.0 q.1) xs (all_both P (S x) xs p.1 h.0), pairs_mapped S R P f k xs p.1 h.1)
+
+  pub pairs_as : (S R : X → X → Type 0) → ((x y : X) → S x y → R x y) → (xs : List X) → Pairwise S xs → Pairwise R xs
+  pairs_as S R gives [] h = tt
+  pairs_as S R gives (x ∷ xs) h = (all_as (S x) (R x) (gives x) xs h.0, pairs_as S R gives xs h.1)
+
+  pub pairs_both : (S R : X → X → Type 0) (xs : List X) → Pairwise S xs → Pairwise R xs → Pairwise (λ x y. S x y × R x y) xs
+  pairs_both S R [] h k = tt
+  pairs_both S R (x ∷ xs) h k = (all_both (S x) (R x) xs h.0 k.0, pairs_both S R xs h.1 k.1)
 
   -- ---- the first that passes
 

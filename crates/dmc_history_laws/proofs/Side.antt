@@ -1,22 +1,23 @@
--- The two bounds as one: what each reads of the tags, of the rates and of what was sent, and what a request that waits keeps to.
-use Rattle.std.proofs.Common.{◌≡◌, ℕ, ◌+◌, ◌*◌, ◌<◌, List, [], ◌∷◌, ◌++◌, map, drop, length, suc, Option, Some, None, Ok, refl, sym, ap, ◌∙◌, subst, arith}
-use Rattle.std.specs.Prelude.{ℤ, pos, ◌+ℤ◌, ◌-ℤ◌, ◌≤ℤ◌, IfSome, ⊤}
-use Rattle.std.specs.Option.{unwrap_or, option_map}
+-- The two bounds as one: what each reads of the tags, of the rates and of what was sent, and the level of what was sent and taken off.
+use Rattle.std.proofs.Common.{◌≡◌, ℕ, ◌+◌, ◌*◌, Option, Some, Ok, sym, ap, ◌∙◌, subst, arith}
+use Rattle.std.specs.Prelude.{ℤ, pos, ◌+ℤ◌, ◌-ℤ◌}
+use Rattle.std.specs.Option.{unwrap_or}
 use Rattle.std.specs.Result.{result_ok}
-use Rattle.std.specs.List.{AllByRecursion}
 use Rattle.std.proofs.lemmas.Int.{ints}
 use Rattle.dmc_types.specs.Values.{Params, Rates}
+use Rattle.dmc_types.specs.declared.config.PhaseType.{PhaseType}
+use Rattle.dmc_types.specs.declared.config.PhaseType.TheVariants.{Reservation as Reserved, Priority}
 use Rattle.dmc_types.specs.declared.refusal.Field.TheVariants.{Reservation, Weight, Limit}
 use Rattle.dmc_tag.specs.Tag.{Fraction, Tagging}
 use Rattle.dmc_tag.specs.Outcome.{in_range}
 use Rattle.dmc_tag.specs.Spacing.{spacing_of, optional_spacing, spacings_of}
-use Rattle.dmc_tag.specs.Rules.{next_tag, next_reservation, previous_after, assigned, less}
+use Rattle.dmc_tag.specs.Rules.{next_tag, next_reservation, previous_after, assigned}
 use Rattle.dmc_tag.specs.declared.plain.Previous.{Previous}
+use Rattle.dmc_tag.specs.declared.plain.Slack.{Slack}
 use Rattle.dmc_tag.specs.State.{PlainClient}
 use Rattle.dmc_tag.specs.declared.reply.Tags.{Tags}
 use Rattle.dmc_tag.proofs.TagOrder.{bound, from_option, from_range}
 use Rattle.dmc_history_laws.proofs.Basics.{from_ok}
-use Rattle.dmc_history_laws.proofs.Pace.{NotBelow, lowered}
 
 pub data Side : Type 0 where
   limits : Side
@@ -40,29 +41,20 @@ abbrev pub count_in : Side → Params → ℕ
 count_in limits params = params.delta
 count_in reservations params = params.rho
 
--- how many spacings this many Priority grants take off
+-- how many spacings Priority grants of this cost take off
 abbrev pub taken_in : Side → ℕ → ℕ
-taken_in limits grants = 0
-taken_in reservations grants = grants
+taken_in limits cost = 0
+taken_in reservations cost = cost
+
+-- the phase of the grants that are bounded
+abbrev pub phase_of : Side → PhaseType
+phase_of limits = Priority
+phase_of reservations = Reserved
 
 -- the new tag becomes the previous one
-pub previous_of : {T : Type 0} (side : Side) (tags : Tags T) (previous : Previous T) (tag : T) → tag_in side tags ≡ Some tag → previous_in side (previous_after tags previous) ≡ tag
-previous_of limits tags previous tag e = cc
-previous_of reservations tags previous tag e = ap (λ o. unwrap_or o previous.r) e
-
--- what a reduction makes of the tag
-abbrev pub lessened : {T : Type 0} → Tagging T → Side → T → Option T → Option T
-lessened ops limits amount tag = tag
-lessened ops reservations amount tag = option_map (less ops amount) tag
-
-pub reads_reduced : {T : Type 0} (ops : Tagging T) (side : Side) (amount : T) (tags : Tags T) → tag_in side (record tags { r = option_map (less ops amount) tags.r }) ≡ lessened ops side amount (tag_in side tags)
-reads_reduced ops limits amount tags = refl
-reads_reduced ops reservations amount tags = refl
-
--- a shift of P is not read
-pub reads_shifted : {T : Type 0} (side : Side) (tags : Tags T) (p : T) → tag_in side (record tags { p = p }) ≡ tag_in side tags
-reads_shifted limits tags p = refl
-reads_shifted reservations tags p = refl
+pub previous_of : {T : Type 0} (side : Side) (tags : Tags T) (slack : Slack T) (previous : Previous T) (tag : T) → tag_in side tags ≡ Some tag → previous_in side (previous_after tags slack previous) ≡ tag
+previous_of limits tags slack previous tag e = cc
+previous_of reservations tags slack previous tag e = ap (λ o. unwrap_or o previous.r) e
 
 -- ---- an assignment steps the tag by the spacing of the rate
 
@@ -116,10 +108,10 @@ module _ {T : Type 0} (fraction : T → Fraction) (hz q from : ℕ) where
         up : (a b c : ℕ) → (pos a -ℤ pos b) +ℤ pos c ≡ pos (a + c) -ℤ pos b
         up a b c = omega (arith, ints)
 
-  pub level_taken : (taken sent : ℕ) → level taken sent -ℤ pos hz ≡ level (taken + 1) sent
-  level_taken taken sent =
-      let e : hz * (taken + 1) ≡ hz * taken + hz = omega arith in
-      down (q * from + hz * sent) (hz * taken) hz ∙ ap (λ n. pos (q * from + hz * sent) -ℤ pos n) (sym e) where
+  pub level_taken : (taken sent cost : ℕ) → level taken sent -ℤ pos (hz * cost) ≡ level (taken + cost) sent
+  level_taken taken sent cost =
+      let e : hz * (taken + cost) ≡ hz * taken + hz * cost = omega arith in
+      down (q * from + hz * sent) (hz * taken) (hz * cost) ∙ ap (λ n. pos (q * from + hz * sent) -ℤ pos n) (sym e) where
         down : (a b c : ℕ) → (pos a -ℤ pos b) -ℤ pos c ≡ pos a -ℤ pos (b + c)
         down a b c = omega (arith, ints)
 
@@ -130,61 +122,3 @@ module _ {T : Type 0} (fraction : T → Fraction) (hz q from : ℕ) where
       ap (λ n. pos n -ℤ pos (hz * 0)) sent ∙ none (q * from) (hz * 0) taken where
         none : (a b : ℕ) → b ≡ 0 → pos a -ℤ pos b ≡ pos a
         none a b e = omega (arith, ints)
-
-  -- the tag, if there is one, is not below the level
-  abbrev pub IsAt : ℕ → ℕ → T → Type 0
-  IsAt taken sent a = NotBelow (fraction a) (level taken sent) q
-
-  pub falls : (taken more sent : ℕ) (a : T) → IsAt taken sent a → IsAt (taken + more) sent a
-  falls taken more sent a h =
-      let e : hz * (taken + more) ≡ hz * taken + hz * more = omega arith in
-      lowered (fraction a) (level taken sent) (level (taken + more) sent) q (subst (λ n. (pos (q * from + hz * sent) -ℤ pos n) ≤ℤ level taken sent) (sym e) (down (q * from + hz * sent) (hz * taken) (hz * more))) h where
-        down : (a b c : ℕ) → (pos a -ℤ pos (b + c)) ≤ℤ (pos a -ℤ pos b)
-        down a b c = omega (arith, ints)
-
-  -- a request up to which so much was sent since
-  abbrev pub IsLate : ℕ → Option T → ℕ → Type 0
-  IsLate taken tag sent = 0 < sent → IfSome tag (IsAt taken sent)
-
-  abbrev pub AreLate : ℕ → List (Option T) → List ℕ → Type 0
-  AreLate taken [] [] = ⊤
-  AreLate taken [] (w ∷ ws) = ⊥
-  AreLate taken (x ∷ xs) [] = ⊥
-  AreLate taken (x ∷ xs) (w ∷ ws) = IsLate taken x w × AreLate taken xs ws
-
-  pub late_more : (taken : ℕ) (xs : List (Option T)) (ws : List ℕ) (x : Option T) (w : ℕ) → AreLate taken xs ws → IsLate taken x w → AreLate taken (xs ++ x ∷ []) (ws ++ w ∷ [])
-  late_more taken [] [] x w h k = (k, tt)
-  late_more taken [] (v ∷ ws) x w h k = absurd h
-  late_more taken (y ∷ xs) [] x w h k = absurd h
-  late_more taken (y ∷ xs) (v ∷ ws) x w h k = (h.0, late_more taken xs ws x w h.1 k)
-
-  pub late_rest : (taken : ℕ) (x : Option T) (xs : List (Option T)) (ws : List ℕ) → AreLate taken (x ∷ xs) ws → AreLate taken xs (drop 1 ws)
-  late_rest taken x xs [] h = absurd h
-  late_rest taken x xs (w ∷ ws) h = h.1
-
-  pub late_length : (taken : ℕ) (xs : List (Option T)) (ws : List ℕ) → AreLate taken xs ws → length xs ≡ length ws
-  late_length taken [] [] h = refl
-  late_length taken [] (w ∷ ws) h = absurd h
-  late_length taken (x ∷ xs) [] h = absurd h
-  late_length taken (x ∷ xs) (w ∷ ws) h = ap suc (late_length taken xs ws h.1)
-
-  -- each tag is changed, by a change that keeps it at a level
-  pub late_changed : (taken other : ℕ) (Can : Option T → Type 0) (change : Option T → Option T) → ((o : Option T) (w : ℕ) → Can o → IsLate taken o w → IsLate other (change o) w) → (os : List (Option T)) (ws : List ℕ) → AllByRecursion Can os → AreLate taken os ws → AreLate other (map change os) ws
-  late_changed taken other Can change keeps [] [] can h = tt
-  late_changed taken other Can change keeps [] (w ∷ ws) can h = absurd h
-  late_changed taken other Can change keeps (o ∷ os) [] can h = absurd h
-  late_changed taken other Can change keeps (o ∷ os) (w ∷ ws) can h = (keeps o w can.0 h.0, late_changed taken other Can change keeps os ws can.1 h.1)
-
-  pub late_falls : (taken more : ℕ) (os : List (Option T)) (ws : List ℕ) → AreLate taken os ws → AreLate (taken + more) os ws
-  late_falls taken more [] [] h = tt
-  late_falls taken more [] (w ∷ ws) h = absurd h
-  late_falls taken more (o ∷ os) [] h = absurd h
-  late_falls taken more (o ∷ os) (w ∷ ws) h = (one o (h.0), late_falls taken more os ws h.1) where
-    one : (o : Option T) → IsLate taken o w → IsLate (taken + more) o w
-    one None k = λ some. tt
-    one (Some a) k = λ some. falls taken more w a (k some)
-
-  -- right after a_i
-  pub late_none : {R : Type 0} (taken : ℕ) (f : R → Option T) (xs : List R) → AreLate taken (map f xs) (map (λ _. 0) xs)
-  late_none taken f [] = tt
-  late_none taken f (x ∷ xs) = ((λ some. absurd (omega arith)), late_none taken f xs)

@@ -4,12 +4,10 @@ use Rattle.std.specs.Prelude.{ℤ, pos, ◌+ℤ◌, ◌*ℤ◌, ◌≤ℤ◌, Ok
 use Rattle.std.specs.Cmp.{IsTotalOrder}
 use Rattle.std.proofs.lemmas.Int.{ints}
 use Rattle.dmc_tag.specs.Tag.{Fraction, Tagging, IsExact, IsSame, ratio}
-use Rattle.dmc_tag.specs.Order.{AtMost}
 use Rattle.dmc_tag.specs.Rules.{next_tag}
 use Rattle.dmc_tag.proofs.Scaled.{scaled_twice, scaled_swapped}
-use Rattle.dmc_tag.proofs.TagOrder.{at_most_to}
-use Rattle.dmc_history_laws.specs.Shares.{IsAtMost, spaced_after}
-use Rattle.dmc_history_laws.proofs.Pace.{NotBelow, NotAbove, raised, spacing_worth, next_paced, next_at_most}
+use Rattle.dmc_history_laws.specs.Shares.{spaced_after}
+use Rattle.dmc_history_laws.proofs.Pace.{NotAbove, at_most_more, spacing_worth, next_under}
 
 module _ (hz w : ℕ) (base : Fraction) where
   -- a spacing for each of these requests more
@@ -39,31 +37,20 @@ module _ (hz w : ℕ) (base : Fraction) where
     turned : base.denom * w ≡ w * base.denom
     turned = omega arith
 
-  abbrev pub IsFrom : ℕ → Fraction → Type 0
-  IsFrom sent f = NotBelow f (spaced_after hz w sent base).numer (base.denom * w)
-
   abbrev pub IsUpTo : ℕ → Fraction → Type 0
   IsUpTo sent f = NotAbove f (spaced_after hz w sent base).numer (base.denom * w)
-
-  pub from_itself : IsFrom 0 base
-  from_itself = record { le = as_much _ _ itself } where
-    as_much : (x y : ℤ) → x ≡ y → x ≤ℤ y
-    as_much x y e = omega (arith, ints)
 
   pub up_to_itself : IsUpTo 0 base
   up_to_itself = record { le = as_much _ _ itself } where
     as_much : (x y : ℤ) → x ≡ y → y ≤ℤ x
     as_much x y e = omega (arith, ints)
 
+  -- with more requests it may be more
+  pub up_to_more : (sent k : ℕ) (f : Fraction) → IsUpTo sent f → IsUpTo (sent + k) f
+  up_to_more sent k f h = at_most_more f _ _ (base.denom * w) (subst (λ m. (spaced_after hz w sent base).numer ≤ℤ m) (more sent k) (grows _ _)) h where
+    grows : (z : ℤ) (n : ℕ) → z ≤ℤ (z +ℤ pos n)
+    grows z n = omega (arith, ints)
+
   module _ {T : Type 0} (ops : Tagging T) (fraction : T → Fraction) (is_value : Fraction → Type 0) (exact : IsExact ops fraction is_value) (order : IsTotalOrder ops.compare) (previous spacing tag t : T) (sent k : ℕ) (spaced : ops.spacing hz w ≡ Some spacing) (next : next_tag ops previous k spacing t ≡ Ok tag) where
-    pub next_from : IsFrom sent (fraction previous) → IsFrom (sent + k) (fraction tag)
-    next_from h = subst (λ m. NotBelow (fraction tag) m (base.denom * w)) (more sent k) (next_paced ops fraction is_value exact order previous spacing tag t _ (hz * base.denom) (base.denom * w) k (spacing_is (fraction spacing) (spacing_worth ops fraction is_value exact hz w spacing spaced)) next h)
-
-    pub next_up_to : AtMost ops t previous → IsUpTo sent (fraction previous) → IsUpTo (sent + k) (fraction tag)
-    next_up_to under h = subst (λ m. NotAbove (fraction tag) m (base.denom * w)) (more sent k) (next_at_most ops fraction is_value exact order previous spacing tag t _ (hz * base.denom) (base.denom * w) k (spacing_is (fraction spacing) (spacing_worth ops fraction is_value exact hz w spacing spaced)) next under h)
-
--- from the one, by two tags in order, up to the other
-pub between_both : {T : Type 0} (ops : Tagging T) (fraction : T → Fraction) (is_value : Fraction → Type 0) (exact : IsExact ops fraction is_value) (hz v w m n : ℕ) (a b : Fraction) (x y : T) → IsFrom hz v a m (fraction x) → AtMost ops x y → IsUpTo hz w b n (fraction y) → IsAtMost (spaced_after hz v m a) (spaced_after hz w n b)
-between_both ops fraction is_value exact hz v w m n a b x y from le up_to =
-    (raised (fraction y) (spaced_after hz w n b) _ _ (exact.denom y) up_to.le
-    (raised (fraction x) (fraction y) _ _ (exact.denom x) (at_most_to ops fraction is_value exact x y le) from)).le
+    pub next_within : IsUpTo (sent + k) (fraction t) → IsUpTo sent (fraction previous) → IsUpTo (sent + k) (fraction tag)
+    next_within under h = subst (λ m. NotAbove (fraction tag) m (base.denom * w)) (more sent k) (next_under ops fraction is_value exact order previous spacing tag t _ (hz * base.denom) (base.denom * w) k (spacing_is (fraction spacing) (spacing_worth ops fraction is_value exact hz w spacing spaced)) next (subst (λ m. NotAbove (fraction t) m (base.denom * w)) (sym (more sent k)) under) h)

@@ -1,5 +1,5 @@
 -- Each command keeps the requests of each client in order of their tags.
-use Rattle.std.proofs.Common.{◌≡◌, ℕ, zero, suc, ◌<◌, Bool, true, false, not, ◌&&◌, ◌||◌, List, [], map, Option, Some, None, Ok, refl, sym, ap, ◌∙◌, subst, arith, inl, inr}
+use Rattle.std.proofs.Common.{◌≡◌, ℕ, zero, suc, ◌<◌, Bool, true, false, not, ◌&&◌, ◌||◌, List, [], map, Option, Some, None, Result, Ok, Err, refl, sym, ap, ◌∙◌, subst, arith, inl, inr}
 use Rattle.std.specs.Prelude.{◌⊎◌, pos, ◌*ℤ◌, ⊤, if◌then◌else◌, is_some, IfSome, filter, nat_le, ◌-◌}
 use Rattle.std.specs.List.{AllByRecursion}
 use Rattle.std.specs.Option.{ok_or, option_map}
@@ -13,17 +13,19 @@ use Rattle.dmc_types.specs.declared.ids.Token.{Token}
 use Rattle.dmc_types.specs.declared.refusal.Refusal.TheVariants.{Known, Unknown, Busy}
 use Rattle.dmc_types.specs.declared.refusal.Field.{Field}
 use Rattle.dmc_types.specs.declared.refusal.Field.TheVariants.{Reservation, Weight, Limit}
+use Rattle.dmc_types.specs.declared.config.Counting.{Counting}
 use Rattle.dmc_types.specs.declared.config.Shares.{Shares}
 use Rattle.dmc_types.specs.declared.command.Command.{Command}
-use Rattle.dmc_types.specs.declared.command.Command.TheVariants.{Register, Update, Add, Pull, Remove, Clean}
+use Rattle.dmc_types.specs.declared.command.Command.TheVariants.{Register, Update, Add, Pull, Remove, Cancel, Clean}
 use Rattle.dmc_tag.specs.Tag.{Fraction, Tagging, IsExact}
-use Rattle.dmc_tag.specs.Order.{AreNext}
+use Rattle.dmc_tag.specs.Order.{AreNext, AreSpacings}
+use Rattle.dmc_tag.specs.Cancel.{charged_to, without_token}
 use Rattle.dmc_tag.specs.Outcome.{refuse_if, in_range, exactly}
 use Rattle.dmc_tag.specs.Spacing.{spacing_of, optional_spacing, spacings_of}
 use Rattle.dmc_tag.specs.State.{State, PlainClient, is_client, is_busy, client_named, effective}
 use Rattle.dmc_tag.specs.Best.{Found, best_of_all, by_weight, is_any}
 use Rattle.dmc_tag.specs.Rules as rules_of
-use Rattle.dmc_tag.specs.Rules.{Outcome}
+use Rattle.dmc_tag.specs.Rules.{Outcome, Addition}
 use Rattle.dmc_tag.specs.Step.{answer_of, outcome}
 use Rattle.dmc_tag.specs.declared.plain.Progress.{Progress}
 use Rattle.dmc_tag.specs.declared.plain.QueuedRequest.{QueuedRequest}
@@ -33,16 +35,18 @@ use Rattle.dmc_tag.proofs.TagOrder.{given, bound, from_option, from_range, posit
 use Rattle.dmc_tag.proofs.Active.{either, granted_id, same_client}
 use Rattle.dmc_lemmas.proofs.Lists.{all_as, all_at, all_both, all_filtered, all_mapped, all_next, each_passes, found_holds}
 use Rattle.dmc_history_laws.proofs.Basics.{bind_goes, add_gives, from_ok, allowed}
+use Rattle.dmc_history_laws.proofs.Falling.{IsSlack}
 use Rattle.dmc_history_laws.proofs.InTurn.{pull_is, IsGrant, IsInTurn, AreInTurn}
 use Rattle.dmc_history_laws.proofs.Named.{named_mapped}
 use Rattle.dmc_history_laws.proofs.Pairs.{Differ, ids-kept, nobody, only_one, pairs_kept, pairs_more}
-use Rattle.dmc_history_laws.proofs.TurnKept.{turn_empty, turn_without_first, turn_updated, turn_marked, turn_reduced, turn_shifted, turn_arrived}
+use Rattle.dmc_history_laws.proofs.Slacks.{arrives_with_slack, charges_not_below, no_slack}
+use Rattle.dmc_history_laws.proofs.TurnKept.{turn_empty, turn_without_first, turn_updated, turn_marked, turn_reduced, turn_shifted, turn_arrived, turn_cancelled}
 
 module _ {T : Type 0} (ops : Tagging T) (fraction : T → Fraction) (is_value : Fraction → Type 0) (exact : IsExact ops fraction is_value) (order : IsTotalOrder ops.compare) where
   -- ---- rates
 
   -- a rate that has a spacing is above 0
-  spacing_rate : (hz rate : ℕ) (s : T) → 0 < hz → ops.spacing hz rate ≡ Some s → 0 < rate
+  pub spacing_rate : (hz rate : ℕ) (s : T) → 0 < hz → ops.spacing hz rate ≡ Some s → 0 < rate
   spacing_rate hz rate s some e = at rate (given ops fraction is_value exact (ops.spacing hz rate) _ s (exact.spacing hz rate) e) where
     at : (q : ℕ) → (fraction s).numer *ℤ pos q ≡ pos hz *ℤ pos (fraction s).denom → 0 < q
     at zero h =
@@ -104,7 +108,7 @@ module _ {T : Type 0} (ops : Tagging T) (fraction : T → Fraction) (is_value : 
       kept d false e = refl
 
   -- what is found under an id is in turn
-  found_turn : (clients : List (PlainClient T)) (id : ClientId) (c : PlainClient T) → client_named id clients ≡ Some c → AllByRecursion (IsInTurn ops order) clients → IsInTurn ops order c
+  pub found_turn : (clients : List (PlainClient T)) (id : ClientId) (c : PlainClient T) → client_named id clients ≡ Some c → AllByRecursion (IsInTurn ops order) clients → IsInTurn ops order c
   found_turn clients id c named turn = found_holds (IsInTurn ops order) (λ d. is_client id d.id) clients c turn named
 
   -- ---- add
@@ -145,18 +149,20 @@ module _ {T : Type 0} (ops : Tagging T) (fraction : T → Fraction) (is_value : 
 
   add_stays : (s : State T) (client : ClientId) (token : Token) (params : Params) (t : ℕ) → 0 < s.config.hz → Turn s → Stays s (rules_of.added ops s client token params t)
   add_stays s client token params t some is = bind_goes (Stays s) (rules_of.can_add ops s client params t) _ (λ e. (is, refl)) (λ x e. (at x e, refl)) where
-    at : (x : Option T × Tags T) → rules_of.can_add ops s client params t ≡ Ok x → Turn (rules_of.queued ops s x.0 client (record { token = token; tags = x.1 }) t)
+    at : (x : Addition T) → rules_of.can_add ops s client params t ≡ Ok x → Turn (rules_of.queued ops s x.shift client (rules_of.request_of token params.cost x) t)
     at x e =
         let c = add_gives ops s client params t x e in
-        let moved = shifted_turn s x.0 c.can is in
-        let r : QueuedRequest T = record { token = token; tags = x.1 } in
-        let left = left_by x.0 c.client in
-        let next = assigned_next s.config.hz c.client params (ops.of_moment t) _ x.1 some c.tags in
-        let named = named_shifted x.0 client s.clients c.client c.named in
-        let reserved : is_some x.1.r ≡ is_some left.info.reservation = next.reserved ∙ ap (λ i. is_some i.reservation) (sym (info_shifted x.0 c.client)) in
-        let here : State T = record s { clients = rules_of.shifted_by ops x.0 s.clients } in
+        let moved = shifted_turn s x.shift c.can is in
+        let r : QueuedRequest T = rules_of.request_of token params.cost x in
+        let left = left_by x.shift c.client in
+        let next = assigned_next s.config.hz c.client params (ops.of_moment t) _ x.tags some c.tags in
+        let named = named_shifted x.shift client s.clients c.client c.named in
+        let reserved : is_some x.tags.r ≡ is_some left.info.reservation = next.reserved ∙ ap (λ i. is_some i.reservation) (sym (info_shifted x.shift c.client)) in
+        let here : State T = record s { clients = rules_of.shifted_by ops x.shift s.clients } in
         let of_left : IsInTurn ops order left = found_turn here.clients client left named moved.clients in
-        progressed _ _ (one_changed here client (rules_of.after_arrival r t) left t named (turn_arrived ops order fraction is_value exact left r t reserved (idle_or_next x.0 s.config.shares s.clients c.client (ops.of_moment t) x.1 c.shift next) of_left) (λ d _. refl) moved)
+        let of_client : IsInTurn ops order c.client = found_turn s.clients client c.client c.named is.clients in
+        let slack : IsSlack ops x.slack = subst (IsSlack ops) c.slack (arrives_with_slack ops fraction is_value exact order s.config.hz c.client params (ops.of_moment t) _ x.tags c.tags of_client.left) in
+        progressed _ _ (one_changed here client (rules_of.after_arrival r t) left t named (turn_arrived ops order fraction is_value exact left r t reserved (idle_or_next x.shift s.config.shares s.clients c.client (ops.of_moment t) x.tags c.shift next) slack of_left) (λ d _. refl) moved)
 
   -- ---- update
 
@@ -201,17 +207,33 @@ module _ {T : Type 0} (ops : Tagging T) (fraction : T → Fraction) (is_value : 
       (all_as (IsInTurn ops order) _ (λ c h. turn_marked ops order c (c.idle || rules_of.is_stale t s.config.idle_age c) (same_mark s t c) h) fresh.clients (all_filtered (IsInTurn ops order) _ s.clients is.clients))
       (λ c. refl) (record { clients = all_filtered (IsInTurn ops order) _ s.clients is.clients; distinct = pairs_kept Differ _ s.clients is.distinct })
 
+  -- ---- cancel
+
+  spacings_are : (hz : ℕ) (info : Rates) → 0 < hz → IfSome (result_ok (spacings_of ops hz info)) (AreSpacings ops info)
+  spacings_are hz info some = by (spacings_of ops hz info) refl where
+    by : (r : Result (Spacings T) Field) → spacings_of ops hz info ≡ r → IfSome (result_ok r) (AreSpacings ops info)
+    by (Err fault) e = tt
+    by (Ok spacings) e = spacings_not_below ops fraction is_value exact hz info spacings (rates_of hz info spacings some e) e
+
+  pub paid_by : (hz : ℕ) (counting : Counting) (c : PlainClient T) → 0 < hz → (cost : ℕ) → IsSlack ops (charged_to ops hz counting c cost)
+  paid_by hz counting c some cost = charges_not_below ops fraction is_value exact order counting c.info _ cost (spacings_are hz c.info some)
+
+  cancel_stays : (s : State T) (id : ClientId) (token : Token) (counting : Counting) (c : PlainClient T) → client_named id s.clients ≡ Some c → 0 < s.config.hz → Turn s → Turn (record s { clients = rules_of.change_client id (λ d. without_token ops token (charged_to ops s.config.hz counting d) d) s.clients })
+  cancel_stays s id token counting c named some is =
+      one_changed s id (λ d. without_token ops token (charged_to ops s.config.hz counting d) d) c s.last_moment named (turn_cancelled ops order fraction is_value exact c token (charged_to ops s.config.hz counting c) (paid_by s.config.hz counting c some) (found_turn s.clients id c named is.clients)) (λ d _. refl) is
+
   -- ---- each command
 
   pub step_stays : (s : State T) (c : Command) → 0 < s.config.hz → Turn s → Stays s (outcome ops s c)
   step_stays s (Register id info at) some is = bind_goes (Stays s) (rules_of.can_register ops s id info) _ (λ e. (is, refl)) (λ u e.
       let known = bound (refuse_if (is_some (client_named id s.clients)) Known) _ u e in
       let newcomer = rules_of.newcomer ops id info (effective s at) in (
-        record { clients = all_next (IsInTurn ops order) s.clients newcomer is.clients (turn_empty ops order newcomer refl); distinct = pairs_more Differ s.clients newcomer is.distinct (nobody id s.clients (allowed _ Known known.0 known.1)) },
+        record { clients = all_next (IsInTurn ops order) s.clients newcomer is.clients (turn_empty ops order newcomer refl (no_slack ops fraction is_value exact order)); distinct = pairs_more Differ s.clients newcomer is.distinct (nobody id s.clients (allowed _ Known known.0 known.1)) },
         refl,
       ))
   step_stays s (Update id info at) some is = update_stays s id info (effective s at) is
   step_stays s (Add client token params at) some is = add_stays s client token params (effective s at) some is
   step_stays s (Pull at) some is = pull_is ops order s (effective s at) is.clients (Stays s) (λ e. (is, refl)) (λ m. (record { clients = is.clients; distinct = is.distinct }, refl)) (record { clients = is.clients; distinct = is.distinct }, refl) (λ found amount phase beyond g. (grant_stays s (effective s at) found amount phase beyond g is, refl))
-  step_stays s (Remove id) some is = bind_goes (Stays s) (rules_of.can_remove s id) _ (λ e. (is, refl)) (λ c e. (one_changed s id (rules_of.with_requests []) c s.last_moment (from_option _ _ _ e) (turn_empty ops order (rules_of.with_requests [] c) refl) (λ d _. refl) is, refl))
+  step_stays s (Remove id) some is = bind_goes (Stays s) (rules_of.can_remove s id) _ (λ e. (is, refl)) (λ c e. (one_changed s id (rules_of.with_requests []) c s.last_moment (from_option _ _ _ e) (turn_empty ops order (rules_of.with_requests [] c) refl (found_turn s.clients id c (from_option _ _ _ e) is.clients).left) (λ d _. refl) is, refl))
+  step_stays s (Cancel id token counting) some is = bind_goes (Stays s) (rules_of.can_remove s id) _ (λ e. (is, refl)) (λ c e. (cancel_stays s id token counting c (from_option _ _ _ e) some is, refl))
   step_stays s (Clean at) some is = (clean_stays s (effective s at) is, refl)

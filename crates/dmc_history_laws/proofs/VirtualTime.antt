@@ -10,7 +10,7 @@ use Rattle.dmc_types.specs.declared.config.PhaseType.{PhaseType}
 use Rattle.dmc_types.specs.declared.config.PhaseType.TheVariants.{Reservation, Priority}
 use Rattle.dmc_types.specs.declared.config.Shares.TheVariants.{Virtual}
 use Rattle.dmc_types.specs.declared.command.Command.{Command}
-use Rattle.dmc_types.specs.declared.command.Command.TheVariants.{Register, Update, Add, Pull, Remove, Clean}
+use Rattle.dmc_types.specs.declared.command.Command.TheVariants.{Register, Update, Add, Pull, Remove, Cancel, Clean}
 use Rattle.dmc_types.specs.declared.refusal.Field.TheVariants as fields
 use Rattle.dmc_types.specs.declared.refusal.Refusal.{Refusal}
 use Rattle.dmc_tag.specs.Tag.{Tagging}
@@ -45,13 +45,6 @@ module _ {T : Type 0} (ops : Tagging T) (order : IsTotalOrder ops.compare) where
     at : (l : Bool) → is_lt (ops.compare b a) ≡ l → AtMost ops b (cond l a b)
     at true e = ap is_gt (less_if_lt _ e)
     at false e = at_most_itself ops order b
-
-  -- what neither is above, the greater is not above
-  pub both_under : (a b c : T) → AtMost ops a c → AtMost ops b c → AtMost ops (ord_max ops.compare a b) c
-  both_under a b c h k = at (is_lt (ops.compare b a)) where
-    at : (l : Bool) → AtMost ops (cond l a b) c
-    at true = h
-    at false = k
 
 -- ---- the P of a request that arrives
 
@@ -89,7 +82,7 @@ module _ {T : Type 0} (ops : Tagging T) (hz : ℕ) (c : PlainClient T) (params :
 -- after every other reply it is as it was
 abbrev pub goes_on : {T : Type 0} → Reply T → Bool
 goes_on (Tagged tags) = true
-goes_on (Granted client token Priority beyond) = true
+goes_on (Granted client token Priority beyond cost) = true
 goes_on reply = false
 
 -- What holds of each of these cases holds of every command, under Shares::Virtual.
@@ -104,8 +97,8 @@ module _ {T : Type 0} (ops : Tagging T) (order : IsTotalOrder ops.compare) (s : 
   add_goes client token params at = bind_goes (Goes (Add client token params at)) (rules_of.can_add ops s client params (effective s at)) _ (refused _) (λ x e.
       let c = add_gives ops s client params (effective s at) x e in
       let floor : rules_of.share_floor ops s (ops.of_moment (effective s at)) ≡ rules_of.virtual_at ops (is_nothing_queued s.clients) s.progress = ap (λ k. rules_of.floor_by ops k (is_nothing_queued s.clients) s.progress (ops.of_moment (effective s at))) virtual in
-      let now : (rules_of.progress_added ops s.config.shares (is_nothing_queued s.clients) x.1.p s.progress).virtual_time ≡ rules_of.virtual_at ops (is_nothing_queued s.clients) s.progress = ap (λ k. (rules_of.progress_added ops k (is_nothing_queued s.clients) x.1.p s.progress).virtual_time) virtual in
-      arrives client token params at c.client x.1 _ c.named (subst (λ f. rules_of.assigned ops s.config.hz c.client params (ops.of_moment (effective s at)) f ≡ Ok x.1) (floor ∙ sym now) c.tags) now)
+      let now : (rules_of.progress_added ops s.config.shares (is_nothing_queued s.clients) x.tags.p s.progress).virtual_time ≡ rules_of.virtual_at ops (is_nothing_queued s.clients) s.progress = ap (λ k. (rules_of.progress_added ops k (is_nothing_queued s.clients) x.tags.p s.progress).virtual_time) virtual in
+      arrives client token params at c.client x.tags _ c.named (subst (λ f. rules_of.assigned ops s.config.hz c.client params (ops.of_moment (effective s at)) f ≡ Ok x.tags) (floor ∙ sym now) c.tags) now)
 
   grant_goes : (at : ℕ) (found : Found T) (amount : Option T) (phase : PhaseType) (beyond : Bool) → IsGrant ops s (effective s at) found amount phase beyond → P (Pull at) (rules_of.granted found phase beyond) (rules_of.taken_out ops s (effective s at) found phase amount)
   grant_goes at found amount Reservation beyond g = stays (Pull at) _ _ refl refl
@@ -117,4 +110,5 @@ module _ {T : Type 0} (ops : Tagging T) (order : IsTotalOrder ops.compare) (s : 
   step_goes_on (Add client token params at) = add_goes client token params at
   step_goes_on (Pull at) = pull_is ops order s (effective s at) is.clients (Goes (Pull at)) (refused (Pull at)) (λ m. stays _ _ _ refl refl) (stays _ _ _ refl refl) (grant_goes at)
   step_goes_on (Remove client) = bind_goes (Goes (Remove client)) (rules_of.can_remove s client) _ (refused _) (λ c e. stays _ _ _ refl refl)
+  step_goes_on (Cancel client token counting) = bind_goes (Goes (Cancel client token counting)) (rules_of.can_remove s client) _ (refused _) (λ c e. stays _ _ _ refl refl)
   step_goes_on (Clean at) = stays _ _ _ refl refl

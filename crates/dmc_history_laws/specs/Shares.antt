@@ -14,7 +14,7 @@ use Rattle.dmc_tag.specs.declared.event.Event.{Event}
 use Rattle.dmc_tag.specs.declared.plain.QueuedRequest.{QueuedRequest}
 use Rattle.dmc_tag.specs.declared.reply.Tags.{Tags}
 use Rattle.dmc_tag.specs.declared.reply.Reply.TheVariants.{Tagged, Granted}
-use Rattle.dmc_history_laws.specs.Bounds.{Arrives, AllKeep, arrivals, departures, between, sum_of}
+use Rattle.dmc_history_laws.specs.Bounds.{Arrives, AllKeep, IsFirstThatWaits, NeverCancelled, arrivals, departures, between, given_back, sum_of}
 
 -- the state before the event with this number
 abbrev pub before : {T : Type 0} → Tagging T → Setting → List (Event T) → ℕ → State T
@@ -40,7 +40,7 @@ pub record IsWeightGrant {T : Type 0} (ops : Tagging T) (config : Setting) (hist
   pub moment : ℕ
   pub pulls : event.command ≡ Pull moment
   pub beyond : Bool
-  pub grants : event.reply ≡ Granted id request.token Priority beyond
+  pub grants : event.reply ≡ Granted id request.token Priority beyond request.cost
   pub first : IsFirst ops config history number id request
 
 -- ---- no credit
@@ -62,8 +62,9 @@ HasWeight id weight s = option_map (λ c. c.info.weight) (client_named id s.clie
 -- Client b asks all the time, beside client a, from its request h on, which is queued at the event `joined`. After it two requests
 -- of a are granted by weight, first x and then y; or x is y. From h on to the grant of y, b always has a queued request, and at each
 -- grant by weight that is not beyond a limit, the limit of b's first one lets it. No Register and no Update of b is accepted after h
--- was queued, and none of a after the first of x and h was queued.
-pub record Competes {T : Type 0} (ops : Tagging T) (config : Setting) (history : List (Event T)) (a b : ClientId) : Type 0 where
+-- was queued, and none of a after the first of x and h was queued. `Is` says by the events before a grant how many arrivals of a came
+-- before the one that is granted.
+pub record CompetesBy {T : Type 0} (Is : ClientId → ℕ → List (Event T) → Type 0) (ops : Tagging T) (config : Setting) (history : List (Event T)) (a b : ClientId) : Type 0 where
   pub joined : ℕ
   pub h : Tags T
   pub h_arrives : IsArrival history joined b h
@@ -75,7 +76,7 @@ pub record Competes {T : Type 0} (ops : Tagging T) (config : Setting) (history :
   pub first : ℕ
   pub x : QueuedRequest T
   pub x_granted : IsWeightGrant ops config history first a x
-  pub x_is : length (arrivals a (take came history)) ≡ departures a (take first history)
+  pub x_is : Is a (length (arrivals a (take came history))) (take first history)
   pub last : ℕ
   pub y : QueuedRequest T
   pub y_granted : IsWeightGrant ops config history last a y
@@ -87,6 +88,22 @@ pub record Competes {T : Type 0} (ops : Tagging T) (config : Setting) (history :
       → is_free ops (effective (before ops config history number) grant.moment) front ≡ true
   pub b_kept : AllKeep b (between joined last history)
   pub a_kept : AllKeep a (between (min came joined) last history)
+
+-- as many as have left by then
+abbrev pub AreThoseThatLeft : {T : Type 0} → ClientId → ℕ → List (Event T) → Type 0
+AreThoseThatLeft id count events = count ≡ departures id events
+
+-- as many as came before the first of those that wait by then
+abbrev pub AreBeforeThoseThatWait : {T : Type 0} → ClientId → ℕ → List (Event T) → Type 0
+AreBeforeThoseThatWait id count events = IsFirstThatWaits id (suc count) events
+
+-- of clients that were never cancelled
+abbrev pub Competes : {T : Type 0} → Tagging T → Setting → List (Event T) → (a b : ClientId) → Type 0
+Competes ops config history a b = CompetesBy AreThoseThatLeft ops config history a b
+
+-- of clients that may have been cancelled
+abbrev pub WaitingCompetes : {T : Type 0} → Tagging T → Setting → List (Event T) → (a b : ClientId) → Type 0
+WaitingCompetes ops config history a b = CompetesBy AreBeforeThoseThatWait ops config history a b
 
 -- the arrivals of a client are numbered from 1: the first one that is queued before an event, and the last one that came by then
 abbrev pub first_queued : {T : Type 0} → ClientId → ℕ → List (Event T) → ℕ
@@ -103,13 +120,28 @@ IsAtMost f g = (f.numer *ℤ pos g.denom) ≤ℤ (g.numer *ℤ pos f.denom)
 abbrev pub spaced_after : ℕ → ℕ → ℕ → Fraction → Fraction
 spaced_after hz weight count tag = plus_of tag (multiple_of count (ratio hz weight))
 
--- The P of x, after a's deltas behind x up to y, is at most the P of h, after b's deltas behind h up to its first request when y
--- is granted (none, if that is before h): hz/w_a * (deltas of a) <= hz/w_b * (deltas of b) + (P of h - P of x).
+-- Of two clients of which no request was taken back: the P of x, after a's deltas behind x up to y, is at most the P of h, after
+-- b's deltas behind h up to its first request when y is granted (none, if that is before h):
+-- hz/w_a * (deltas of a) <= hz/w_b * (deltas of b) + (P of h - P of x).
 abbrev pub NoDebt : {T : Type 0} → Tagging T → (T → Fraction) → Setting → Type 0
 NoDebt {T} ops fraction config =
     (history : List (Event T)) → replays ops config history
     → (a b : ClientId) (w_a w_b : ℕ) (c : Competes ops config history a b)
+    → NeverCancelled a history → NeverCancelled b history
     → HasWeight a w_a (before ops config history (suc c.joined)) → HasWeight b w_b (before ops config history (suc c.joined))
     → IsAtMost
     (spaced_after config.hz w_a (sum_of (λ p. p.delta) (first_queued a c.first history) (first_queued a c.last history) (arrivals a history)) (fraction c.x.tags.p))
     (spaced_after config.hz w_b (sum_of (λ p. p.delta) (last_arrived b c.joined history) (first_queued b c.last history) (arrivals b history)) (fraction c.h.p))
+
+-- Of any two clients, whatever was taken back, with a_k and b_m the first that wait of both when y is granted: what a Cancel in the
+-- form Others took out between x and y counts against a's deltas:
+-- hz/w_a * (deltas of a - G) <= hz/w_b * (deltas of b) + (P of h - P of x).
+abbrev pub NoDebtWithCancels : {T : Type 0} → Tagging T → (T → Fraction) → Setting → Type 0
+NoDebtWithCancels {T} ops fraction config =
+    (history : List (Event T)) → replays ops config history
+    → (a b : ClientId) (w_a w_b k m : ℕ) (c : WaitingCompetes ops config history a b)
+    → HasWeight a w_a (before ops config history (suc c.joined)) → HasWeight b w_b (before ops config history (suc c.joined))
+    → IsFirstThatWaits a k (take c.last history) → IsFirstThatWaits b m (take c.last history)
+    → IsAtMost
+    (spaced_after config.hz w_a (sum_of (λ p. p.delta) (last_arrived a c.came history) k (arrivals a history)) (fraction c.x.tags.p))
+    (spaced_after config.hz w_a (given_back a (last_arrived a c.came history) k (take c.last history)) (spaced_after config.hz w_b (sum_of (λ p. p.delta) (last_arrived b c.joined history) m (arrivals b history)) (fraction c.h.p)))

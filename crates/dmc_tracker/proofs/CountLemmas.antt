@@ -1,4 +1,4 @@
--- How many responses and stamps a tracker's list has, and the completions at one server.
+-- How many responses and stamps a tracker's list has, what the responses cost, and the completions at one server.
 use Rattle.std.proofs.Common.{◌≡◌, ℕ, ◌+◌, ◌≤◌, List, [], ◌∷◌, ◌++◌, length, refl, sym, ap, ◌∙◌, arith, true, false, cond, ◌==◌}
 use Rattle.std.proofs.lemmas.List.Sums.{sum_by_push, count_by-le-length}
 use Rattle.dmc_types.specs.Values.{Params, Counts, no_counts}
@@ -8,38 +8,41 @@ use Rattle.dmc_types.specs.declared.config.PhaseType.{PhaseType}
 use Rattle.dmc_types.specs.declared.config.PhaseType.TheVariants.{Reservation, Priority}
 use Rattle.dmc_tracker.specs.declared.event.TrackerEvent.{TrackerEvent}
 use Rattle.dmc_tracker.specs.declared.event.TrackerEvent.TheVariants.{Stamp, Skip, Response}
-use Rattle.dmc_tracker.specs.TrackerList.{plus, one_in, completed_by, counted_by, is_stamp_to, is_response_in, completions, completions_at, others, responses, stamps}
-use Rattle.dmc_tracker.proofs.ListLemmas.{same_counts, plus-none, total-push, snoc}
+use Rattle.dmc_tracker.specs.TrackerList.{plus, completed_in, completed_by, counted_by, is_stamp_to, is_response_in, response_cost, completions, completions_at, others, responses, response_costs, stamps}
+use Rattle.dmc_tracker.proofs.ListLemmas.{same_counts, plus-none, none-plus, total-push, snoc}
 
 -- what an entry completes at s
 abbrev completed_at : ServerId → TrackerEvent → Counts
 completed_at s e = record {
-  delta = cond (is_response_in s Reservation e) 1 0 + cond (is_response_in s Priority e) 1 0;
-  rho = cond (is_response_in s Reservation e) 1 0;
+  delta = response_cost s Reservation e + response_cost s Priority e;
+  rho = response_cost s Reservation e;
 }
 
 -- a response completes at its own server, and there alone
-completed_at-same : (q s : ServerId) (phase : PhaseType) → (q.0 == s.0) ≡ true → completed_at s (Response q phase) ≡ one_in phase
-completed_at-same q s Reservation here = same_counts _ _ (ap (λ b. cond b 1 0 + 0) here) (ap (λ b. cond b 1 0) here)
-completed_at-same q s Priority here = same_counts _ _ (ap (λ b. 0 + cond b 1 0) here) refl
+completed_at-same : (q s : ServerId) (phase : PhaseType) (cost : ℕ) → (q.0 == s.0) ≡ true
+    → completed_at s (Response q phase cost) ≡ completed_in phase cost
+completed_at-same q s Reservation cost here =
+    same_counts _ _ (ap (λ b. cond b cost 0 + 0) here ∙ omega arith) (ap (λ b. cond b cost 0) here)
+completed_at-same q s Priority cost here = same_counts _ _ (ap (λ b. 0 + cond b cost 0) here ∙ omega arith) refl
 
-completed_at-other : (q s : ServerId) (phase : PhaseType) → (q.0 == s.0) ≡ false → completed_at s (Response q phase) ≡ no_counts
-completed_at-other q s Reservation there = same_counts _ _ (ap (λ b. cond b 1 0 + 0) there) (ap (λ b. cond b 1 0) there)
-completed_at-other q s Priority there = same_counts _ _ (ap (λ b. 0 + cond b 1 0) there) refl
+completed_at-other : (q s : ServerId) (phase : PhaseType) (cost : ℕ) → (q.0 == s.0) ≡ false
+    → completed_at s (Response q phase cost) ≡ no_counts
+completed_at-other q s Reservation cost there = same_counts _ _ (ap (λ b. cond b cost 0 + 0) there) (ap (λ b. cond b cost 0) there)
+completed_at-other q s Priority cost there = same_counts _ _ (ap (λ b. 0 + cond b cost 0) there) refl
 
 -- an entry completes at s or elsewhere
 completed_by-parts : (s : ServerId) (e : TrackerEvent) → plus (completed_at s e) (counted_by Others s e) ≡ completed_by e
 completed_by-parts s (Stamp q params) = refl
 completed_by-parts s (Skip q) = refl
-completed_by-parts s (Response q Reservation) =
-    elim (q.0 == s.0) as (λ b. plus (record { delta = cond b 1 0 + 0; rho = cond b 1 0 }) (cond b no_counts (one_in Reservation)) ≡ one_in Reservation) [
-      | true ↦ refl
-      | false ↦ refl
+completed_by-parts s (Response q Reservation cost) =
+    elim (q.0 == s.0) as (λ b. plus (record { delta = cond b cost 0 + 0; rho = cond b cost 0 }) (cond b no_counts (completed_in Reservation cost)) ≡ completed_in Reservation cost) [
+      | true ↦ same_counts _ _ (omega arith) (omega arith)
+      | false ↦ none-plus _
     ]
-completed_by-parts s (Response q Priority) =
-    elim (q.0 == s.0) as (λ b. plus (record { delta = 0 + cond b 1 0; rho = 0 }) (cond b no_counts (one_in Priority)) ≡ one_in Priority) [
-      | true ↦ refl
-      | false ↦ refl
+completed_by-parts s (Response q Priority cost) =
+    elim (q.0 == s.0) as (λ b. plus (record { delta = 0 + cond b cost 0; rho = 0 }) (cond b no_counts (completed_in Priority cost)) ≡ completed_in Priority cost) [
+      | true ↦ same_counts _ _ (omega arith) (omega arith)
+      | false ↦ none-plus _
     ]
 
 plus-plus : (a x b y : Counts) → plus (plus a x) (plus b y) ≡ plus (plus a b) (plus x y)
@@ -58,35 +61,75 @@ module _ (s : ServerId) (events : List TrackerEvent) where
   pub responses-skip : (phase : PhaseType) (q : ServerId) → responses s phase (events ++ Skip q ∷ []) ≡ responses s phase events
   responses-skip phase q = omega (arith, responses-push phase (Skip q))
 
-  pub responses-response_same : (phase : PhaseType) (q : ServerId) → (q.0 == s.0) ≡ true
-      → responses s phase (events ++ Response q phase ∷ []) ≡ responses s phase events + 1
-  responses-response_same Reservation q here =
-      responses-push Reservation (Response q Reservation) ∙ ap (λ b. responses s Reservation events + cond b 1 0) here
-  responses-response_same Priority q here =
-      responses-push Priority (Response q Priority) ∙ ap (λ b. responses s Priority events + cond b 1 0) here
+  pub responses-response_same : (phase : PhaseType) (q : ServerId) (cost : ℕ) → (q.0 == s.0) ≡ true
+      → responses s phase (events ++ Response q phase cost ∷ []) ≡ responses s phase events + 1
+  responses-response_same Reservation q cost here =
+      responses-push Reservation (Response q Reservation cost) ∙ ap (λ b. responses s Reservation events + cond b 1 0) here
+  responses-response_same Priority q cost here =
+      responses-push Priority (Response q Priority cost) ∙ ap (λ b. responses s Priority events + cond b 1 0) here
 
-  pub responses-response_other : (phase : PhaseType) (q : ServerId) (granted : PhaseType) → (q.0 == s.0) ≡ false
-      → responses s phase (events ++ Response q granted ∷ []) ≡ responses s phase events
-  responses-response_other Reservation q Reservation there =
-      omega (arith, responses-push Reservation (Response q Reservation), ap {B = ℕ} (λ b. cond b 1 0) there)
-  responses-response_other Reservation q Priority there = omega (arith, responses-push Reservation (Response q Priority))
-  responses-response_other Priority q Reservation there = omega (arith, responses-push Priority (Response q Reservation))
-  responses-response_other Priority q Priority there =
-      omega (arith, responses-push Priority (Response q Priority), ap {B = ℕ} (λ b. cond b 1 0) there)
+  pub responses-response_other : (phase : PhaseType) (q : ServerId) (granted : PhaseType) (cost : ℕ) → (q.0 == s.0) ≡ false
+      → responses s phase (events ++ Response q granted cost ∷ []) ≡ responses s phase events
+  responses-response_other Reservation q Reservation cost there =
+      omega (arith, responses-push Reservation (Response q Reservation cost), ap {B = ℕ} (λ b. cond b 1 0) there)
+  responses-response_other Reservation q Priority cost there = omega (arith, responses-push Reservation (Response q Priority cost))
+  responses-response_other Priority q Reservation cost there = omega (arith, responses-push Priority (Response q Reservation cost))
+  responses-response_other Priority q Priority cost there =
+      omega (arith, responses-push Priority (Response q Priority cost), ap {B = ℕ} (λ b. cond b 1 0) there)
 
   -- a response in the other phase
-  pub responses-reservation-priority : (q : ServerId)
-      → responses s Reservation (events ++ Response q Priority ∷ []) ≡ responses s Reservation events
-  responses-reservation-priority q = omega (arith, responses-push Reservation (Response q Priority))
+  pub responses-reservation-priority : (q : ServerId) (cost : ℕ)
+      → responses s Reservation (events ++ Response q Priority cost ∷ []) ≡ responses s Reservation events
+  responses-reservation-priority q cost = omega (arith, responses-push Reservation (Response q Priority cost))
 
-  pub responses-priority-reservation : (q : ServerId)
-      → responses s Priority (events ++ Response q Reservation ∷ []) ≡ responses s Priority events
-  responses-priority-reservation q = omega (arith, responses-push Priority (Response q Reservation))
+  pub responses-priority-reservation : (q : ServerId) (cost : ℕ)
+      → responses s Priority (events ++ Response q Reservation cost ∷ []) ≡ responses s Priority events
+  responses-priority-reservation q cost = omega (arith, responses-push Priority (Response q Reservation cost))
+
+  response_costs-push : (phase : PhaseType) (e : TrackerEvent)
+      → response_costs s phase (events ++ e ∷ []) ≡ response_costs s phase events + response_cost s phase e
+  response_costs-push phase e = sum_by_push (response_cost s phase) events e
+
+  -- what the responses in a phase cost: a response of s in this phase adds its cost, and no other entry adds any
+  pub response_costs-stamp : (phase : PhaseType) (q : ServerId) (params : Params)
+      → response_costs s phase (events ++ Stamp q params ∷ []) ≡ response_costs s phase events
+  response_costs-stamp phase q params = omega (arith, response_costs-push phase (Stamp q params))
+
+  pub response_costs-skip : (phase : PhaseType) (q : ServerId)
+      → response_costs s phase (events ++ Skip q ∷ []) ≡ response_costs s phase events
+  response_costs-skip phase q = omega (arith, response_costs-push phase (Skip q))
+
+  pub response_costs-response_same : (phase : PhaseType) (q : ServerId) (cost : ℕ) → (q.0 == s.0) ≡ true
+      → response_costs s phase (events ++ Response q phase cost ∷ []) ≡ response_costs s phase events + cost
+  response_costs-response_same Reservation q cost here =
+      response_costs-push Reservation (Response q Reservation cost) ∙ ap (λ b. response_costs s Reservation events + cond b cost 0) here
+  response_costs-response_same Priority q cost here =
+      response_costs-push Priority (Response q Priority cost) ∙ ap (λ b. response_costs s Priority events + cond b cost 0) here
+
+  pub response_costs-response_other : (phase : PhaseType) (q : ServerId) (granted : PhaseType) (cost : ℕ) → (q.0 == s.0) ≡ false
+      → response_costs s phase (events ++ Response q granted cost ∷ []) ≡ response_costs s phase events
+  response_costs-response_other Reservation q Reservation cost there =
+      omega (arith, response_costs-push Reservation (Response q Reservation cost), ap {B = ℕ} (λ b. cond b cost 0) there)
+  response_costs-response_other Reservation q Priority cost there =
+      omega (arith, response_costs-push Reservation (Response q Priority cost))
+  response_costs-response_other Priority q Reservation cost there =
+      omega (arith, response_costs-push Priority (Response q Reservation cost))
+  response_costs-response_other Priority q Priority cost there =
+      omega (arith, response_costs-push Priority (Response q Priority cost), ap {B = ℕ} (λ b. cond b cost 0) there)
+
+  -- a response in the other phase
+  pub response_costs-reservation-priority : (q : ServerId) (cost : ℕ)
+      → response_costs s Reservation (events ++ Response q Priority cost ∷ []) ≡ response_costs s Reservation events
+  response_costs-reservation-priority q cost = omega (arith, response_costs-push Reservation (Response q Priority cost))
+
+  pub response_costs-priority-reservation : (q : ServerId) (cost : ℕ)
+      → response_costs s Priority (events ++ Response q Reservation cost ∷ []) ≡ response_costs s Priority events
+  response_costs-priority-reservation q cost = omega (arith, response_costs-push Priority (Response q Reservation cost))
 
   -- the completions at s
   completions_at-push : (e : TrackerEvent) → completions_at s (events ++ e ∷ []) ≡ plus (completions_at s events) (completed_at s e)
   completions_at-push e =
-      same_counts _ _ (omega (arith, responses-push Reservation e, responses-push Priority e)) (responses-push Reservation e)
+      same_counts _ _ (omega (arith, response_costs-push Reservation e, response_costs-push Priority e)) (response_costs-push Reservation e)
 
   pub completions_at-stamp : (q : ServerId) (params : Params) → completions_at s (events ++ Stamp q params ∷ []) ≡ completions_at s events
   completions_at-stamp q params = completions_at-push (Stamp q params) ∙ plus-none (completions_at s events)
@@ -94,15 +137,15 @@ module _ (s : ServerId) (events : List TrackerEvent) where
   pub completions_at-skip : (q : ServerId) → completions_at s (events ++ Skip q ∷ []) ≡ completions_at s events
   completions_at-skip q = completions_at-push (Skip q) ∙ plus-none (completions_at s events)
 
-  pub completions_at-response_same : (q : ServerId) (phase : PhaseType) → (q.0 == s.0) ≡ true
-      → completions_at s (events ++ Response q phase ∷ []) ≡ plus (completions_at s events) (one_in phase)
-  completions_at-response_same q phase here =
-      completions_at-push (Response q phase) ∙ ap (plus (completions_at s events)) (completed_at-same q s phase here)
+  pub completions_at-response_same : (q : ServerId) (phase : PhaseType) (cost : ℕ) → (q.0 == s.0) ≡ true
+      → completions_at s (events ++ Response q phase cost ∷ []) ≡ plus (completions_at s events) (completed_in phase cost)
+  completions_at-response_same q phase cost here =
+      completions_at-push (Response q phase cost) ∙ ap (plus (completions_at s events)) (completed_at-same q s phase cost here)
 
-  pub completions_at-response_other : (q : ServerId) (phase : PhaseType) → (q.0 == s.0) ≡ false
-      → completions_at s (events ++ Response q phase ∷ []) ≡ completions_at s events
-  completions_at-response_other q phase there =
-      completions_at-push (Response q phase) ∙ ap (plus (completions_at s events)) (completed_at-other q s phase there)
+  pub completions_at-response_other : (q : ServerId) (phase : PhaseType) (cost : ℕ) → (q.0 == s.0) ≡ false
+      → completions_at s (events ++ Response q phase cost ∷ []) ≡ completions_at s events
+  completions_at-response_other q phase cost there =
+      completions_at-push (Response q phase cost) ∙ ap (plus (completions_at s events)) (completed_at-other q s phase cost there)
       ∙ plus-none (completions_at s events)
 
   -- no list has more stamps or responses than entries

@@ -12,12 +12,15 @@ pub use Rattle.dmc_tracker.proofs.LawLemmas.{sums-all, sums-others}
 pub use Rattle.dmc_tracker.proofs.LawLemmas.{next-all, sent-between}
 -- what is pending is at most the completions
 pub use Rattle.dmc_tracker.proofs.LawLemmas.{pending-le}
+-- a stamp whose request no server took leaves no trace, if its counts go into the next stamp to its server
+pub use Rattle.dmc_tracker.proofs.ReturnedLemmas.{IsTracked-returned}
 -- the completions at a server and those at the other servers are all completions
 pub use Rattle.dmc_tracker.proofs.CountLemmas.{completions-by_server}
 -- one more entry: what was sent to a server, by a stamp to it, by a stamp to another, by a skip, by a response
 pub use Rattle.dmc_tracker.proofs.ListLemmas.{sent-stamp_same, sent-stamp_other, sent-skip, sent-response}
--- the stamps to a server
+-- the stamps to a server, and what they cost
 pub use Rattle.dmc_tracker.proofs.ListLemmas.{stamps-stamp_same, stamps-stamp_other, stamps-skip, stamps-response}
+pub use Rattle.dmc_tracker.proofs.ListLemmas.{stamp_costs-stamp_same, stamp_costs-stamp_other, stamp_costs-skip, stamp_costs-response}
 -- the skips of a server, and what they skip
 pub use Rattle.dmc_tracker.proofs.ListLemmas.{skips-stamp, skips-response, skipped-none}
 -- the completions
@@ -27,7 +30,14 @@ pub use Rattle.dmc_tracker.proofs.ListLemmas.{pending-stamp_same, pending-stamp_
 -- the responses of a server in a phase, by its own response there, by another server's, by one in the other phase, by a stamp, by a skip
 pub use Rattle.dmc_tracker.proofs.CountLemmas.{responses-response_same, responses-response_other}
 pub use Rattle.dmc_tracker.proofs.CountLemmas.{responses-reservation-priority, responses-priority-reservation, responses-stamp, responses-skip}
+-- what the responses of a server in a phase cost, by the same entries
+pub use Rattle.dmc_tracker.proofs.CountLemmas.{response_costs-response_same, response_costs-response_other}
+pub use Rattle.dmc_tracker.proofs.CountLemmas.{response_costs-reservation-priority, response_costs-priority-reservation, response_costs-stamp, response_costs-skip}
 -- the completions at a server
 pub use Rattle.dmc_tracker.proofs.CountLemmas.{completions_at-response_same, completions_at-response_other, completions_at-stamp, completions_at-skip}
 -- no list has more stamps or responses than entries
 pub use Rattle.dmc_tracker.proofs.CountLemmas.{stamps-le-length, responses-le-length}
+-- counts are the same if both are; sums of counts
+pub use Rattle.dmc_tracker.proofs.ListLemmas.{same_counts, plus-none, none-plus, plus-assoc}
+-- one more element ends what comes after the last that passes, or belongs to it
+pub use Rattle.dmc_tracker.proofs.ListLemmas.{after_last-push}

@@ -10,7 +10,7 @@ use Rattle.dmc_types.specs.declared.config.Counting.TheVariants.{All, Others}
 use Rattle.dmc_types.specs.declared.config.PhaseType.{PhaseType}
 use Rattle.dmc_tracker.specs.declared.event.TrackerEvent.{TrackerEvent}
 use Rattle.dmc_tracker.specs.declared.event.TrackerEvent.TheVariants.{Stamp, Skip, Response}
-use Rattle.dmc_tracker.specs.TrackerList.{plus, total, one_in, completed_by, counted_by, sent_by, is_stamp_to, own_share, completions, others, stamps, sent, skipped, skipped_after, pending, demanded, IsTracked}
+use Rattle.dmc_tracker.specs.TrackerList.{plus, total, completed_in, completed_by, counted_by, sent_by, stamp_cost, own_share, completions, others, stamp_costs, sent, skipped, skipped_after, pending, demanded, IsTracked}
 use Rattle.dmc_tracker.proofs.RepresentsLemmas.{same_server}
 use Rattle.dmc_tracker.proofs.ListLemmas.{same_counts, plus-none, none-plus, total-push, snoc, completions-stamp, completions-skip, completions-response, sent-response, sent-stamp_same, sent-stamp_other, sent-skip, pending-response, pending-stamp_same, pending-stamp_other, pending-skip_same, pending-skip_other, skipped-append, skipped-stamp, skipped-response, skipped-skip_same, skipped-skip_other}
 
@@ -21,9 +21,9 @@ IsTracked-front counting events more h = λ before after s params e.
 
 -- what the stamps to s count for their own requests
 abbrev own_by : Counting → ServerId → TrackerEvent → Counts
-own_by counting s (Stamp server params) = cond (server.0 == s.0) (own_share counting) no_counts
+own_by counting s (Stamp server params) = cond (server.0 == s.0) (own_share counting params.cost) no_counts
 own_by counting s (Skip server) = no_counts
-own_by counting s (Response server phase) = no_counts
+own_by counting s (Response server phase cost) = no_counts
 
 -- what was sent to s, what was skipped and what is pending there is what was counted for s, and the own shares
 abbrev IsSum : Counting → ServerId → List TrackerEvent → Type 0
@@ -56,29 +56,30 @@ passes S K P O C S' K' P' O' C' s l p o c h =
 
 sums-push : (counting : Counting) (s : ServerId) (events : List TrackerEvent) (e : TrackerEvent)
     → (IsTracked counting events → IsSum counting s events) → IsTracked counting (events ++ e ∷ []) → IsSum counting s (events ++ e ∷ [])
-sums-push counting s events (Response q phase) h tracked =
-    grows _ _ _ _ _ (counted_by counting s (Response q phase)) _ _ _ _ _
-    (sent-response s events q phase) (skipped-response counting s events q phase) (pending-response counting s events q phase)
-    (total-push (own_by counting s) events (Response q phase))
-    (total-push (counted_by counting s) events (Response q phase))
-    (h (IsTracked-front counting events (Response q phase ∷ []) tracked))
+sums-push counting s events (Response q phase cost) h tracked =
+    grows _ _ _ _ _ (counted_by counting s (Response q phase cost)) _ _ _ _ _
+    (sent-response s events q phase cost) (skipped-response counting s events q phase cost)
+    (pending-response counting s events q phase cost)
+    (total-push (own_by counting s) events (Response q phase cost))
+    (total-push (counted_by counting s) events (Response q phase cost))
+    (h (IsTracked-front counting events (Response q phase cost ∷ []) tracked))
 sums-push counting s events (Stamp q params) h tracked =
     let before = h (IsTracked-front counting events (Stamp q params ∷ []) tracked) in
     let own = total-push (own_by counting s) events (Stamp q params) in
     let counted = total-push (counted_by counting s) events (Stamp q params) in
     elim (eqb_tells q.0 s.0) [
       | inl here ↦
-          sends _ _ _ _ _ (counts_of params) (own_share counting) _ _ _ _ _
-          (ap counts_of (tracked events [] q params refl ∙ ap (λ x. demanded counting x events) (same_server q s here.1)))
+          sends _ _ _ _ _ (counts_of params) (own_share counting params.cost) _ _ _ _ _
+          (ap counts_of (tracked events [] q params refl ∙ ap (λ x. demanded counting x params.cost events) (same_server q s here.1)))
           (sent-stamp_same s events q params here.0) (skipped-stamp counting s events q params)
           (pending-stamp_same counting s events q params here.0)
-          (own ∙ ap (λ b. plus (total (own_by counting s) events) (cond b (own_share counting) no_counts)) here.0)
+          (own ∙ ap (λ b. plus (total (own_by counting s) events) (cond b (own_share counting params.cost) no_counts)) here.0)
           counted before
       | inr there ↦
           grows _ _ _ _ _ no_counts _ _ _ _ _
           (sent-stamp_other s events q params there.0) (skipped-stamp counting s events q params)
           (pending-stamp_other counting s events q params there.0 ∙ sym (plus-none _))
-          (own ∙ ap (λ b. plus (total (own_by counting s) events) (cond b (own_share counting) no_counts)) there.0)
+          (own ∙ ap (λ b. plus (total (own_by counting s) events) (cond b (own_share counting params.cost) no_counts)) there.0)
           counted before
     ]
 sums-push counting s events (Skip q) h tracked =
@@ -106,7 +107,7 @@ own-all : (s : ServerId) (events : List TrackerEvent) → total (own_by All s) e
 own-all s events = snoc (λ es. total (own_by All s) es ≡ no_counts) refl (step) [] events refl
   where
     step : (es : List TrackerEvent) (e : TrackerEvent) → total (own_by All s) es ≡ no_counts → total (own_by All s) (es ++ e ∷ []) ≡ no_counts
-    step es (Response q phase) h = total-push (own_by All s) es (Response q phase) ∙ ap (λ x. plus x no_counts) h
+    step es (Response q phase cost) h = total-push (own_by All s) es (Response q phase cost) ∙ ap (λ x. plus x no_counts) h
     step es (Skip q) h = total-push (own_by All s) es (Skip q) ∙ ap (λ x. plus x no_counts) h
     step es (Stamp q params) h =
         total-push (own_by All s) es (Stamp q params)
@@ -120,9 +121,9 @@ counted-all s events = snoc (λ es. total (counted_by All s) es ≡ completions 
   where
     step : (es : List TrackerEvent) (e : TrackerEvent) → total (counted_by All s) es ≡ completions es
         → total (counted_by All s) (es ++ e ∷ []) ≡ completions (es ++ e ∷ [])
-    step es (Response q phase) h =
-        total-push (counted_by All s) es (Response q phase) ∙ ap (λ x. plus x (one_in phase)) h
-        ∙ sym (total-push completed_by es (Response q phase))
+    step es (Response q phase cost) h =
+        total-push (counted_by All s) es (Response q phase cost) ∙ ap (λ x. plus x (completed_in phase cost)) h
+        ∙ sym (total-push completed_by es (Response q phase cost))
     step es (Stamp q params) h =
         total-push (counted_by All s) es (Stamp q params) ∙ ap (λ x. plus x no_counts) h
         ∙ sym (total-push completed_by es (Stamp q params))
@@ -133,26 +134,26 @@ counted-all s events = snoc (λ es. total (counted_by All s) es ≡ completions 
 abbrev pair : ℕ → Counts
 pair n = record { delta = n; rho = n }
 
--- in `Others` each stamp to s has a share of 1
-own-others : (s : ServerId) (events : List TrackerEvent) → total (own_by Others s) events ≡ record { delta = stamps s events; rho = stamps s events }
+-- in `Others` the share of each stamp to s is what it costs
+own-others : (s : ServerId) (events : List TrackerEvent) → total (own_by Others s) events ≡ record { delta = stamp_costs s events; rho = stamp_costs s events }
 own-others s events =
-    snoc (λ es. total (own_by Others s) es ≡ record { delta = stamps s es; rho = stamps s es }) refl step [] events refl
+    snoc (λ es. total (own_by Others s) es ≡ pair (stamp_costs s es)) refl step [] events refl
   where
-    step : (es : List TrackerEvent) (e : TrackerEvent) → total (own_by Others s) es ≡ record { delta = stamps s es; rho = stamps s es }
-        → total (own_by Others s) (es ++ e ∷ []) ≡ record { delta = stamps s (es ++ e ∷ []); rho = stamps s (es ++ e ∷ []) }
-    step es (Response q phase) h =
-        total-push (own_by Others s) es (Response q phase) ∙ ap (λ x. plus x no_counts) h
-        ∙ ap pair (sym (sum_by_push (λ x. cond (is_stamp_to s x) 1 0) es (Response q phase)))
+    step : (es : List TrackerEvent) (e : TrackerEvent) → total (own_by Others s) es ≡ pair (stamp_costs s es)
+        → total (own_by Others s) (es ++ e ∷ []) ≡ pair (stamp_costs s (es ++ e ∷ []))
+    step es (Response q phase cost) h =
+        total-push (own_by Others s) es (Response q phase cost) ∙ ap (λ x. plus x no_counts) h
+        ∙ ap pair (sym (sum_by_push (stamp_cost s) es (Response q phase cost)))
     step es (Skip q) h =
         total-push (own_by Others s) es (Skip q) ∙ ap (λ x. plus x no_counts) h
-        ∙ ap pair (sym (sum_by_push (λ x. cond (is_stamp_to s x) 1 0) es (Skip q)))
+        ∙ ap pair (sym (sum_by_push (stamp_cost s) es (Skip q)))
     step es (Stamp q params) h =
         total-push (own_by Others s) es (Stamp q params)
-        ∙ (elim (q.0 == s.0) as (λ b. plus (total (own_by Others s) es) (cond b (own_share Others) no_counts) ≡ pair (stamps s es + cond b 1 0)) [
-          | true ↦ ap (λ x. plus x (own_share Others)) h
+        ∙ (elim (q.0 == s.0) as (λ b. plus (total (own_by Others s) es) (cond b (own_share Others params.cost) no_counts) ≡ pair (stamp_costs s es + cond b params.cost 0)) [
+          | true ↦ ap (λ x. plus x (own_share Others params.cost)) h
           | false ↦ ap (λ x. plus x no_counts) h
         ])
-        ∙ ap pair (sym (sum_by_push (λ x. cond (is_stamp_to s x) 1 0) es (Stamp q params)))
+        ∙ ap pair (sym (sum_by_push (stamp_cost s) es (Stamp q params)))
 
 -- what was sent to s, what was skipped and what is pending there are the completions
 pub sums-all : (s : ServerId) (events : List TrackerEvent) → IsTracked All events
@@ -161,10 +162,10 @@ sums-all s events h =
     sums All s events h ∙ ap (λ x. plus x (total (counted_by All s) events)) (own-all s events)
     ∙ none-plus (total (counted_by All s) events) ∙ counted-all s events
 
--- in `Others` they are the stamps to s and the completions at the other servers
+-- in `Others` they are the costs of the stamps to s and the completions at the other servers
 pub sums-others : (s : ServerId) (events : List TrackerEvent) → IsTracked Others events
     → plus (plus (sent s events) (skipped Others s events)) (pending Others s events)
-    ≡ plus (record { delta = stamps s events; rho = stamps s events }) (others s events)
+    ≡ plus (record { delta = stamp_costs s events; rho = stamp_costs s events }) (others s events)
 sums-others s events h = sums Others s events h ∙ ap (λ x. plus x (others s events)) (own-others s events)
 
 -- the empty list is tracked
@@ -190,21 +191,23 @@ parted (a ∷ xs) (b ∷ before) after x y e =
       | inr w ↦ inr (ap (λ z. z ∷ xs) head ∙ ap (λ zs. b ∷ zs) w.0, w.1)
     ]
 
-pub IsTracked-stamp : (counting : Counting) (events : List TrackerEvent) (s : ServerId) (params : Params)
-    → params ≡ demanded counting s events → IsTracked counting events → IsTracked counting (events ++ Stamp s params ∷ [])
-IsTracked-stamp counting events s params due h = λ before after q carried e.
+pub IsTracked-stamp : (counting : Counting) (events : List TrackerEvent) (s : ServerId) (cost : ℕ) (params : Params)
+    → params ≡ demanded counting s cost events → IsTracked counting events → IsTracked counting (events ++ Stamp s params ∷ [])
+IsTracked-stamp counting events s cost params due h = λ before after q carried e.
     elim (parted events before after (Stamp s params) (Stamp q carried) e) [
       | inl w ↦ h before w.0 q carried w.1
       | inr w ↦
           (let same : s ≡ q = cc in
           let given : params ≡ carried = cc in
-          sym given ∙ due ∙ ap (λ x. demanded counting x events) same ∙ ap (demanded counting q) w.0)
+          let costs : cost ≡ carried.cost = sym (ap (λ (p : Params). p.cost) (sym given ∙ due)) in
+          sym given ∙ due ∙ ap (λ x. demanded counting x cost events) same ∙ ap (demanded counting q cost) w.0
+          ∙ ap (λ n. demanded counting q n before) costs)
     ]
 
-pub IsTracked-response : (counting : Counting) (events : List TrackerEvent) (s : ServerId) (phase : PhaseType) → IsTracked counting events
-    → IsTracked counting (events ++ Response s phase ∷ [])
-IsTracked-response counting events s phase h = λ before after q params e.
-    elim (parted events before after (Response s phase) (Stamp q params) e) [
+pub IsTracked-response : (counting : Counting) (events : List TrackerEvent) (s : ServerId) (phase : PhaseType) (cost : ℕ) → IsTracked counting events
+    → IsTracked counting (events ++ Response s phase cost ∷ [])
+IsTracked-response counting events s phase cost h = λ before after q params e.
+    elim (parted events before after (Response s phase cost) (Stamp q params) e) [
       | inl w ↦ h before w.0 q params w.1
       | inr w ↦ absurd (let differ = w.1 in cc)
     ]
@@ -257,19 +260,19 @@ sent-between before between after s first last h =
 pub pending-le : (counting : Counting) (s : ServerId) (events : List TrackerEvent) → (pending counting s events).delta ≤ (completions events).delta
 pending-le counting s events = snoc (λ es. (pending counting s es).delta ≤ (completions es).delta) (omega arith) step [] events (omega arith)
   where
-    part : (form : Counting) (q : ServerId) (phase : PhaseType) → (counted_by form s (Response q phase)).delta ≤ (one_in phase).delta
-    part All q phase = omega arith
-    part Others q phase = elim (q.0 == s.0) as (λ b. (cond b no_counts (one_in phase)).delta ≤ (one_in phase).delta) [
+    part : (form : Counting) (q : ServerId) (phase : PhaseType) (cost : ℕ) → (counted_by form s (Response q phase cost)).delta ≤ (completed_in phase cost).delta
+    part All q phase cost = omega arith
+    part Others q phase cost = elim (q.0 == s.0) as (λ b. (cond b no_counts (completed_in phase cost)).delta ≤ (completed_in phase cost).delta) [
       | true ↦ omega arith
       | false ↦ omega arith
     ]
 
     step : (es : List TrackerEvent) (e : TrackerEvent) → (pending counting s es).delta ≤ (completions es).delta
         → (pending counting s (es ++ e ∷ [])).delta ≤ (completions (es ++ e ∷ [])).delta
-    step es (Response q phase) h =
-        let grown = ap (λ (x : Counts). x.delta) (pending-response counting s es q phase) in
-        let more = ap (λ (x : Counts). x.delta) (completions-response es q phase) in
-        omega (arith, h, grown, more, part counting q phase)
+    step es (Response q phase cost) h =
+        let grown = ap (λ (x : Counts). x.delta) (pending-response counting s es q phase cost) in
+        let more = ap (λ (x : Counts). x.delta) (completions-response es q phase cost) in
+        omega (arith, h, grown, more, part counting q phase cost)
     step es (Stamp q params) h =
         let same = ap (λ (x : Counts). x.delta) (completions-stamp es q params) in
         elim (eqb_tells q.0 s.0) [
@@ -287,8 +290,8 @@ pending-le counting s events = snoc (λ es. (pending counting s es).delta ≤ (c
               (let kept = ap (λ (x : Counts). x.delta) (pending-skip_other counting s es q there.0) in omega (arith, h, kept, same))
         ]
 
-pub next-all : (events : List TrackerEvent) (s : ServerId) → IsTracked All events
-    → (sent s events).delta + (demanded All s events).delta ≤ (completions events).delta
-next-all events s h =
+pub next-all : (events : List TrackerEvent) (s : ServerId) (cost : ℕ) → IsTracked All events
+    → (sent s events).delta + (demanded All s cost events).delta ≤ (completions events).delta
+next-all events s cost h =
     let e = ap (λ (x : Counts). x.delta) (sums-all s events h) in
     omega (arith, e)

@@ -5,4 +5,5 @@ pub mod LawLemmas
 pub mod ListLemmas
 pub mod ServerLemmas
 pub mod RepresentsLemmas
+pub mod ReturnedLemmas
 mod Steps

@@ -10,7 +10,7 @@ use Rattle.dmc_types.specs.declared.config.Counting.{Counting}
 use Rattle.dmc_types.specs.declared.config.PhaseType.{PhaseType}
 use Rattle.dmc_tracker.specs.declared.event.TrackerEvent.{TrackerEvent}
 use Rattle.dmc_tracker.specs.declared.event.TrackerEvent.TheVariants.{Stamp, Skip, Response}
-use Rattle.dmc_tracker.specs.TrackerList.{plus, total, one_in, completed_by, counted_by, sent_by, is_stamp_to, is_skip_of, is_mark_of, completions, stamps, skips, sent, pending, skipped_by, skipped_after, skipped}
+use Rattle.dmc_tracker.specs.TrackerList.{plus, total, completed_in, completed_by, counted_by, sent_by, is_stamp_to, stamp_cost, is_skip_of, is_mark_of, completions, stamps, stamp_costs, skips, sent, pending, skipped_by, skipped_after, skipped}
 
 pub same_counts : (a b : Counts) → a.delta ≡ b.delta → a.rho ≡ b.rho → a ≡ b
 same_counts a b d r = ap (λ x. record { delta = x; rho = a.rho }) d ∙ ap (λ x. record { delta = b.delta; rho = x }) r
@@ -53,9 +53,9 @@ after_last-push {X} p xs x =
 
 module _ (events : List TrackerEvent) where
   -- the completions
-  pub completions-response : (q : ServerId) (phase : PhaseType)
-      → completions (events ++ Response q phase ∷ []) ≡ plus (completions events) (one_in phase)
-  completions-response q phase = total-push completed_by events (Response q phase)
+  pub completions-response : (q : ServerId) (phase : PhaseType) (cost : ℕ)
+      → completions (events ++ Response q phase cost ∷ []) ≡ plus (completions events) (completed_in phase cost)
+  completions-response q phase cost = total-push completed_by events (Response q phase cost)
 
   pub completions-stamp : (q : ServerId) (params : Params) → completions (events ++ Stamp q params ∷ []) ≡ completions events
   completions-stamp q params = total-push completed_by events (Stamp q params) ∙ plus-none (completions events)
@@ -65,8 +65,8 @@ module _ (events : List TrackerEvent) where
 
 module _ (s : ServerId) (events : List TrackerEvent) where
   -- what was sent
-  pub sent-response : (q : ServerId) (phase : PhaseType) → sent s (events ++ Response q phase ∷ []) ≡ sent s events
-  sent-response q phase = total-push (sent_by s) events (Response q phase) ∙ plus-none (sent s events)
+  pub sent-response : (q : ServerId) (phase : PhaseType) (cost : ℕ) → sent s (events ++ Response q phase cost ∷ []) ≡ sent s events
+  sent-response q phase cost = total-push (sent_by s) events (Response q phase cost) ∙ plus-none (sent s events)
 
   pub sent-skip : (q : ServerId) → sent s (events ++ Skip q ∷ []) ≡ sent s events
   sent-skip q = total-push (sent_by s) events (Skip q) ∙ plus-none (sent s events)
@@ -86,8 +86,8 @@ module _ (s : ServerId) (events : List TrackerEvent) where
   stamps-push : (e : TrackerEvent) → stamps s (events ++ e ∷ []) ≡ stamps s events + cond (is_stamp_to s e) 1 0
   stamps-push e = sum_by_push (λ x. cond (is_stamp_to s x) 1 0) events e
 
-  pub stamps-response : (q : ServerId) (phase : PhaseType) → stamps s (events ++ Response q phase ∷ []) ≡ stamps s events
-  stamps-response q phase = omega (arith, stamps-push (Response q phase))
+  pub stamps-response : (q : ServerId) (phase : PhaseType) (cost : ℕ) → stamps s (events ++ Response q phase cost ∷ []) ≡ stamps s events
+  stamps-response q phase cost = omega (arith, stamps-push (Response q phase cost))
 
   pub stamps-skip : (q : ServerId) → stamps s (events ++ Skip q ∷ []) ≡ stamps s events
   stamps-skip q = omega (arith, stamps-push (Skip q))
@@ -102,6 +102,26 @@ module _ (s : ServerId) (events : List TrackerEvent) where
   stamps-stamp_other q params there =
       omega (arith, stamps-push (Stamp q params), ap {B = ℕ} (λ b. cond b 1 0) there)
 
+  -- what they cost
+  stamp_costs-push : (e : TrackerEvent) → stamp_costs s (events ++ e ∷ []) ≡ stamp_costs s events + stamp_cost s e
+  stamp_costs-push e = sum_by_push (stamp_cost s) events e
+
+  pub stamp_costs-response : (q : ServerId) (phase : PhaseType) (cost : ℕ) → stamp_costs s (events ++ Response q phase cost ∷ []) ≡ stamp_costs s events
+  stamp_costs-response q phase cost = omega (arith, stamp_costs-push (Response q phase cost))
+
+  pub stamp_costs-skip : (q : ServerId) → stamp_costs s (events ++ Skip q ∷ []) ≡ stamp_costs s events
+  stamp_costs-skip q = omega (arith, stamp_costs-push (Skip q))
+
+  pub stamp_costs-stamp_same : (q : ServerId) (params : Params) → (q.0 == s.0) ≡ true
+      → stamp_costs s (events ++ Stamp q params ∷ []) ≡ stamp_costs s events + params.cost
+  stamp_costs-stamp_same q params here =
+      stamp_costs-push (Stamp q params) ∙ ap (λ b. stamp_costs s events + cond b params.cost 0) here
+
+  pub stamp_costs-stamp_other : (q : ServerId) (params : Params) → (q.0 == s.0) ≡ false
+      → stamp_costs s (events ++ Stamp q params ∷ []) ≡ stamp_costs s events
+  stamp_costs-stamp_other q params there =
+      omega (arith, stamp_costs-push (Stamp q params), ap {B = ℕ} (λ b. cond b params.cost 0) there)
+
   -- how many skips there are: no other entry adds one
   skips-push : (e : TrackerEvent) → skips s (events ++ e ∷ []) ≡ skips s events + cond (is_skip_of s e) 1 0
   skips-push e = sum_by_push (λ x. cond (is_skip_of s x) 1 0) events e
@@ -109,16 +129,21 @@ module _ (s : ServerId) (events : List TrackerEvent) where
   pub skips-stamp : (q : ServerId) (params : Params) → skips s (events ++ Stamp q params ∷ []) ≡ skips s events
   skips-stamp q params = omega (arith, skips-push (Stamp q params))
 
-  pub skips-response : (q : ServerId) (phase : PhaseType) → skips s (events ++ Response q phase ∷ []) ≡ skips s events
-  skips-response q phase = omega (arith, skips-push (Response q phase))
+  pub skips-response : (q : ServerId) (phase : PhaseType) (cost : ℕ) → skips s (events ++ Response q phase cost ∷ []) ≡ skips s events
+  skips-response q phase cost = omega (arith, skips-push (Response q phase cost))
 
 module _ (counting : Counting) (s : ServerId) (events : List TrackerEvent) where
-  -- what is pending
-  pub pending-response : (q : ServerId) (phase : PhaseType)
-      → pending counting s (events ++ Response q phase ∷ []) ≡ plus (pending counting s events) (counted_by counting s (Response q phase))
-  pending-response q phase =
-      ap (total (counted_by counting s)) (after_last-push (is_mark_of s) events (Response q phase))
-      ∙ total-push (counted_by counting s) (after_last (is_mark_of s) events) (Response q phase)
+  -- what is pending: an entry that is no mark of s adds what it counts
+  pub pending-unmarked_push : (e : TrackerEvent) → is_mark_of s e ≡ false
+      → pending counting s (events ++ e ∷ []) ≡ plus (pending counting s events) (counted_by counting s e)
+  pending-unmarked_push e there =
+      ap (total (counted_by counting s)) (after_last-push (is_mark_of s) events e
+      ∙ ap (λ b. cond b [] (after_last (is_mark_of s) events ++ e ∷ [])) there)
+      ∙ total-push (counted_by counting s) (after_last (is_mark_of s) events) e
+
+  pub pending-response : (q : ServerId) (phase : PhaseType) (cost : ℕ)
+      → pending counting s (events ++ Response q phase cost ∷ []) ≡ plus (pending counting s events) (counted_by counting s (Response q phase cost))
+  pending-response q phase cost = pending-unmarked_push (Response q phase cost) refl
 
   -- nothing, after a mark of s
   pending-mark : (e : TrackerEvent) → is_mark_of s e ≡ true → pending counting s (events ++ e ∷ []) ≡ no_counts
@@ -130,11 +155,7 @@ module _ (counting : Counting) (s : ServerId) (events : List TrackerEvent) where
   pending-same : (e : TrackerEvent) → is_mark_of s e ≡ false → counted_by counting s e ≡ no_counts
       → pending counting s (events ++ e ∷ []) ≡ pending counting s events
   pending-same e there none =
-      ap (total (counted_by counting s)) (after_last-push (is_mark_of s) events e
-      ∙ ap (λ b. cond b [] (after_last (is_mark_of s) events ++ e ∷ [])) there)
-      ∙ total-push (counted_by counting s) (after_last (is_mark_of s) events) e
-      ∙ ap (plus (pending counting s events)) none
-      ∙ plus-none (pending counting s events)
+      pending-unmarked_push e there ∙ ap (plus (pending counting s events)) none ∙ plus-none (pending counting s events)
 
   pub pending-stamp_same : (q : ServerId) (params : Params) → (q.0 == s.0) ≡ true
       → pending counting s (events ++ Stamp q params ∷ []) ≡ no_counts
@@ -151,7 +172,7 @@ module _ (counting : Counting) (s : ServerId) (events : List TrackerEvent) where
       → pending counting s (events ++ Skip q ∷ []) ≡ pending counting s events
   pending-skip_other q there = pending-same (Skip q) there refl
 
-plus-assoc : (a b c : Counts) → plus (plus a b) c ≡ plus a (plus b c)
+pub plus-assoc : (a b c : Counts) → plus (plus a b) c ≡ plus a (plus b c)
 plus-assoc a b c = same_counts _ _ (omega arith) (omega arith)
 
 module _ (counting : Counting) (s : ServerId) where
@@ -175,9 +196,9 @@ module _ (counting : Counting) (s : ServerId) where
       → skipped counting s (events ++ Stamp q params ∷ []) ≡ skipped counting s events
   skipped-stamp events q params = skipped-push events (Stamp q params) ∙ plus-none (skipped counting s events)
 
-  pub skipped-response : (events : List TrackerEvent) (q : ServerId) (phase : PhaseType)
-      → skipped counting s (events ++ Response q phase ∷ []) ≡ skipped counting s events
-  skipped-response events q phase = skipped-push events (Response q phase) ∙ plus-none (skipped counting s events)
+  pub skipped-response : (events : List TrackerEvent) (q : ServerId) (phase : PhaseType) (cost : ℕ)
+      → skipped counting s (events ++ Response q phase cost ∷ []) ≡ skipped counting s events
+  skipped-response events q phase cost = skipped-push events (Response q phase cost) ∙ plus-none (skipped counting s events)
 
   pub skipped-skip_same : (events : List TrackerEvent) (q : ServerId) → (q.0 == s.0) ≡ true
       → skipped counting s (events ++ Skip q ∷ []) ≡ plus (skipped counting s events) (pending counting s events)
@@ -198,9 +219,9 @@ module _ (counting : Counting) (s : ServerId) where
   skipped-none before (Stamp q params ∷ es) none =
       none-plus (skipped_after counting s (before ++ Stamp q params ∷ []) es)
       ∙ skipped-none (before ++ Stamp q params ∷ []) es (omega (arith, none, sum_by-cons (λ x. cond (is_skip_of s x) 1 0) (Stamp q params) es))
-  skipped-none before (Response q phase ∷ es) none =
-      none-plus (skipped_after counting s (before ++ Response q phase ∷ []) es)
-      ∙ skipped-none (before ++ Response q phase ∷ []) es (omega (arith, none, sum_by-cons (λ x. cond (is_skip_of s x) 1 0) (Response q phase) es))
+  skipped-none before (Response q phase cost ∷ es) none =
+      none-plus (skipped_after counting s (before ++ Response q phase cost ∷ []) es)
+      ∙ skipped-none (before ++ Response q phase cost ∷ []) es (omega (arith, none, sum_by-cons (λ x. cond (is_skip_of s x) 1 0) (Response q phase cost) es))
   skipped-none before (Skip q ∷ es) none =
       by (q.0 == s.0) refl (skipped-none (before ++ Skip q ∷ []) es (omega (arith, none, sum_by-cons (λ x. cond (is_skip_of s x) 1 0) (Skip q) es)))
     where

@@ -12,9 +12,10 @@ use Rattle.dmc_types.specs.declared.config.Counting.TheVariants.{All, Others}
 use Rattle.dmc_types.specs.declared.config.PhaseType.{PhaseType}
 use Rattle.dmc_types.specs.declared.config.PhaseType.TheVariants.{Reservation, Priority}
 use Rattle.dmc_tracker.specs.declared.server.ServerCounts.{ServerCounts}
-use Rattle.dmc_tracker.specs.TrackerList.{plus, one_in, own_share}
+use Rattle.dmc_tracker.specs.TrackerList.{plus, completed_in, own_share}
 use Rattle.dmc_tracker.specs.Numbers.{Numbers, ServerNumbers, no_numbers, new_numbers, numbers_at, next_counts, after_stamp, after_skip, after_response, grown, servers_grown, AreLimits}
-use Rattle.dmc_tracker.specs.Server.{minus, IsPart, counted_at, numbers_now, view_of, IsKept, AreKept}
+use Rattle.dmc_tracker.specs.Parts.{minus, IsPart}
+use Rattle.dmc_tracker.specs.Server.{counted_at, numbers_now, view_of, IsKept, AreKept}
 use Rattle.dmc_tracker.proofs.ListLemmas.{same_counts}
 use Rattle.dmc_tracker.proofs.RepresentsLemmas.{same_numbers}
 
@@ -38,8 +39,8 @@ passed counting comps x =
     record x { skipped = plus x.skipped (numbers_now counting comps x).pending; mark = counted_at counting comps x }
 
 -- a response of the server
-abbrev answered : PhaseType → ServerCounts → ServerCounts
-answered phase x = record x { own = plus x.own (one_in phase) }
+abbrev answered : PhaseType → ℕ → ServerCounts → ServerCounts
+answered phase cost x = record x { own = plus x.own (completed_in phase cost) }
 
 -- what contracts see of a server, after a stamp, after a skip and after a response
 now-stamped : (counting : Counting) (comps params : Counts) (x : ServerCounts)
@@ -53,25 +54,25 @@ now-passed : (counting : Counting) (comps : Counts) (x : ServerCounts)
 now-passed All comps x = same_numbers _ _ refl refl (minus_self comps)
 now-passed Others comps x = same_numbers _ _ refl refl (minus_self (minus comps x.own))
 
-now-grown : (counting : Counting) (most : ℕ) (comps : Counts) (phase : PhaseType) (x : ServerCounts) → IsKept counting most comps x
-    → numbers_now counting (plus comps (one_in phase)) x ≡ grown phase (numbers_now counting comps x)
-now-grown All most comps phase x h = same_numbers _ _ refl refl (minus-plus comps x.mark (one_in phase) h.mark)
-now-grown Others most comps phase x h =
-    same_numbers _ _ refl refl (ap (λ c. minus c x.mark) (minus-plus comps x.own (one_in phase) h.own)
-    ∙ minus-plus (minus comps x.own) x.mark (one_in phase) h.mark)
+now-grown : (counting : Counting) (most : ℕ) (comps : Counts) (phase : PhaseType) (cost : ℕ) (x : ServerCounts) → IsKept counting most comps x
+    → numbers_now counting (plus comps (completed_in phase cost)) x ≡ grown phase cost (numbers_now counting comps x)
+now-grown All most comps phase cost x h = same_numbers _ _ refl refl (minus-plus comps x.mark (completed_in phase cost) h.mark)
+now-grown Others most comps phase cost x h =
+    same_numbers _ _ refl refl (ap (λ c. minus c x.mark) (minus-plus comps x.own (completed_in phase cost) h.own)
+    ∙ minus-plus (minus comps x.own) x.mark (completed_in phase cost) h.mark)
 
-map-grown : (counting : Counting) (most : ℕ) (comps : Counts) (phase : PhaseType) (servers : List ServerCounts)
+map-grown : (counting : Counting) (most : ℕ) (comps : Counts) (phase : PhaseType) (cost : ℕ) (servers : List ServerCounts)
     → Each (IsKept counting most comps) servers
-    → map (numbers_now counting (plus comps (one_in phase))) servers ≡ map (grown phase) (map (numbers_now counting comps) servers)
-map-grown counting most comps phase [] h = refl
-map-grown counting most comps phase (x ∷ servers) h =
-    ap (λ y. y ∷ map (numbers_now counting (plus comps (one_in phase))) servers) (now-grown counting most comps phase x (h 0 x (omega arith)))
-    ∙ ap (λ ys. grown phase (numbers_now counting comps x) ∷ ys)
-    (map-grown counting most comps phase servers (λ k e inside. h (suc k) e (omega arith)))
+    → map (numbers_now counting (plus comps (completed_in phase cost))) servers ≡ map (grown phase cost) (map (numbers_now counting comps) servers)
+map-grown counting most comps phase cost [] h = refl
+map-grown counting most comps phase cost (x ∷ servers) h =
+    ap (λ y. y ∷ map (numbers_now counting (plus comps (completed_in phase cost))) servers) (now-grown counting most comps phase cost x (h 0 x (omega arith)))
+    ∙ ap (λ ys. grown phase cost (numbers_now counting comps x) ∷ ys)
+    (map-grown counting most comps phase cost servers (λ k e inside. h (suc k) e (omega arith)))
 
-now-answered : (comps : Counts) (phase : PhaseType) (x : ServerCounts)
-    → numbers_now Others (plus comps (one_in phase)) (answered phase x) ≡ numbers_now Others comps x
-now-answered comps phase x = same_numbers _ _ refl refl (ap (λ c. minus c x.mark) (minus-both comps x.own (one_in phase)))
+now-answered : (comps : Counts) (phase : PhaseType) (cost : ℕ) (x : ServerCounts)
+    → numbers_now Others (plus comps (completed_in phase cost)) (answered phase cost x) ≡ numbers_now Others comps x
+now-answered comps phase cost x = same_numbers _ _ refl refl (ap (λ c. minus c x.mark) (minus-both comps x.own (completed_in phase cost)))
 
 -- the numbers that contracts see of a server
 pub seen_at : (counting : Counting) (most : ℕ) (comps : Counts) (servers : List ServerCounts) (s : ServerId) (x : ServerCounts)
@@ -80,25 +81,25 @@ pub seen_at : (counting : Counting) (most : ℕ) (comps : Counts) (servers : Lis
 seen_at counting most comps servers s x within at =
     get_or-map (numbers_now counting comps) servers s.0 x no_numbers within ∙ ap (numbers_now counting comps) (sym at)
 
-pub next_counts-view : (counting : Counting) (most : ℕ) (comps : Counts) (servers : List ServerCounts) (s : ServerId) (x : ServerCounts)
+pub next_counts-view : (counting : Counting) (most cost : ℕ) (comps : Counts) (servers : List ServerCounts) (s : ServerId) (x : ServerCounts)
     → s.0 < length servers → x ≡ get_or servers s.0 x
-    → next_counts (view_of counting most comps servers) s ≡ plus (numbers_now counting comps x).pending (own_share counting)
-next_counts-view counting most comps servers s x within at =
-    ap (λ (n : ServerNumbers). plus n.pending (own_share counting)) (seen_at counting most comps servers s x within at)
+    → next_counts (view_of counting most comps servers) s cost ≡ plus (numbers_now counting comps x).pending (own_share counting cost)
+next_counts-view counting most cost comps servers s x within at =
+    ap (λ (n : ServerNumbers). plus n.pending (own_share counting cost)) (seen_at counting most comps servers s x within at)
 
 -- a stamp
-pub view-stamp : (counting : Counting) (most : ℕ) (comps params : Counts) (servers : List ServerCounts) (s : ServerId) (x : ServerCounts)
+pub view-stamp : (counting : Counting) (most cost : ℕ) (comps params : Counts) (servers : List ServerCounts) (s : ServerId) (x : ServerCounts)
     → s.0 < length servers → x ≡ get_or servers s.0 x
-    → params ≡ plus (numbers_now counting comps x).pending (own_share counting)
-    → view_of counting most comps (set servers s.0 (stamped counting comps params x)) ≡ after_stamp s (view_of counting most comps servers)
-view-stamp counting most comps params servers s x within at e =
+    → params ≡ plus (numbers_now counting comps x).pending (own_share counting cost)
+    → view_of counting most comps (set servers s.0 (stamped counting comps params x)) ≡ after_stamp s cost (view_of counting most comps servers)
+view-stamp counting most cost comps params servers s x within at e =
     let f = numbers_now counting comps in
     let view = view_of counting most comps servers in
     ap (λ (ys : List ServerNumbers). let n : Numbers = record view { servers = ys } in n) (
     map-set f servers s.0 (stamped counting comps params x)
     ∙ ap (λ (y : ServerNumbers). set (map f servers) s.0 y) (now-stamped counting comps params x)
     ∙ ap (λ (p : Counts). let y : ServerNumbers = record { sent = plus x.sent p; skipped = x.skipped; pending = no_counts } in set (map f servers) s.0 y) e
-    ∙ ap (λ (n : ServerNumbers). let y : ServerNumbers = record { sent = plus n.sent (plus n.pending (own_share counting)); skipped = n.skipped; pending = no_counts } in set (map f servers) s.0 y)
+    ∙ ap (λ (n : ServerNumbers). let y : ServerNumbers = record { sent = plus n.sent (plus n.pending (own_share counting cost)); skipped = n.skipped; pending = no_counts } in set (map f servers) s.0 y)
     (sym (seen_at counting most comps servers s x within at)))
 
 -- a skip
@@ -122,20 +123,19 @@ mark_itself : (counting : Counting) (comps : Counts) (x y : ServerCounts) → x.
 mark_itself All comps x y e = part_itself comps
 mark_itself Others comps x y e = rw e (part_itself (minus comps y.own))
 
-own_rho : (counting : Counting) → (own_share counting).rho ≤ (own_share counting).delta
-own_rho All = omega arith
-own_rho Others = omega arith
+own_rho : (counting : Counting) (cost : ℕ) → (own_share counting cost).rho ≤ (own_share counting cost).delta
+own_rho counting cost = omega arith
 
 -- in `All`, what a stamp and a skip pass on is all that is counted
-stamped_all : (counting : Counting) (most : ℕ) (comps params : Counts) (x : ServerCounts) → IsKept counting most comps x
-    → params ≡ plus (numbers_now counting comps x).pending (own_share counting) → counting ≡ All → plus (plus x.sent params) x.skipped ≡ counted_at counting comps x
-stamped_all All most comps params x h e form =
+stamped_all : (counting : Counting) (most cost : ℕ) (comps params : Counts) (x : ServerCounts) → IsKept counting most comps x
+    → params ≡ plus (numbers_now counting comps x).pending (own_share counting cost) → counting ≡ All → plus (plus x.sent params) x.skipped ≡ counted_at counting comps x
+stamped_all All most cost comps params x h e form =
     let d = ap (λ (p : Counts). p.delta) e in
     let r = ap (λ (p : Counts). p.rho) e in
     let sent = ap (λ (p : Counts). p.delta) (h.sent_all refl) in
     let sent_rho = ap (λ (p : Counts). p.rho) (h.sent_all refl) in
     same_counts _ _ (omega (arith, h.mark.delta)) (omega (arith, h.mark.rho))
-stamped_all Others most comps params x h e form = absurd (cc)
+stamped_all Others most cost comps params x h e form = absurd (cc)
 
 passed_all : (counting : Counting) (most : ℕ) (comps : Counts) (x : ServerCounts) → IsKept counting most comps x
     → counting ≡ All → plus x.sent (plus x.skipped (numbers_now counting comps x).pending) ≡ counted_at counting comps x
@@ -145,20 +145,20 @@ passed_all All most comps x h form =
     same_counts _ _ (omega (arith, sent, h.mark.delta)) (omega (arith, sent_rho, h.mark.rho))
 passed_all Others most comps x h form = absurd (cc)
 
-IsKept-stamped : (counting : Counting) (most : ℕ) (comps params : Counts) (x : ServerCounts) → IsKept counting most comps x
-    → params ≡ plus (numbers_now counting comps x).pending (own_share counting) → x.sent.delta + params.delta ≤ most
+IsKept-stamped : (counting : Counting) (most cost : ℕ) (comps params : Counts) (x : ServerCounts) → IsKept counting most comps x
+    → params ≡ plus (numbers_now counting comps x).pending (own_share counting cost) → x.sent.delta + params.delta ≤ most
     → IsKept counting most comps (stamped counting comps params x)
-IsKept-stamped counting most comps params x h e bound =
+IsKept-stamped counting most cost comps params x h e bound =
     let d = ap (λ (p : Counts). p.delta) e in
     let r = ap (λ (p : Counts). p.rho) e in
     record {
       own = h.own;
       mark = mark_itself counting comps x (stamped counting comps params x) refl;
-      sent_rho = omega (arith, h.mark.rest, h.mark.rho, h.mark.delta, h.sent_rho, own_rho counting);
+      sent_rho = omega (arith, h.mark.rest, h.mark.rho, h.mark.delta, h.sent_rho, own_rho counting cost);
       sent_most = bound;
       skipped_rho = h.skipped_rho;
       skipped_mark = omega (arith, h.skipped_mark, h.mark.delta);
-      sent_all = stamped_all counting most comps params x h e;
+      sent_all = stamped_all counting most cost comps params x h e;
     }
 
 IsKept-passed : (counting : Counting) (most : ℕ) (comps : Counts) (x : ServerCounts) → IsKept counting most comps x
@@ -187,12 +187,12 @@ AreKept-set counting most comps servers s new kept now = record {
 }
 
 -- a stamp that takes what is sent to its server no further than `most`
-pub AreKept-stamp : (counting : Counting) (most : ℕ) (comps params : Counts) (servers : List ServerCounts) (s : ServerId) (x : ServerCounts)
+pub AreKept-stamp : (counting : Counting) (most cost : ℕ) (comps params : Counts) (servers : List ServerCounts) (s : ServerId) (x : ServerCounts)
     → AreKept counting most comps servers → s.0 < length servers → x ≡ get_or servers s.0 x
-    → params ≡ plus (numbers_now counting comps x).pending (own_share counting) → x.sent.delta + params.delta ≤ most
+    → params ≡ plus (numbers_now counting comps x).pending (own_share counting cost) → x.sent.delta + params.delta ≤ most
     → AreKept counting most comps (set servers s.0 (stamped counting comps params x))
-AreKept-stamp counting most comps params servers s x kept within at e bound =
-    AreKept-set counting most comps servers s (stamped counting comps params x) kept (IsKept-stamped counting most comps params x (rw at (kept.each s.0 x within)) e bound)
+AreKept-stamp counting most cost comps params servers s x kept within at e bound =
+    AreKept-set counting most comps servers s (stamped counting comps params x) kept (IsKept-stamped counting most cost comps params x (rw at (kept.each s.0 x within)) e bound)
 
 pub AreKept-skip : (counting : Counting) (most : ℕ) (comps : Counts) (servers : List ServerCounts) (s : ServerId) (x : ServerCounts)
     → AreKept counting most comps servers → s.0 < length servers → x ≡ get_or servers s.0 x
@@ -215,38 +215,38 @@ part-both part whole k h = record {
   rest = omega (arith, h.rest);
 }
 
-pub one_rho : (phase : PhaseType) → (one_in phase).rho ≤ (one_in phase).delta
-one_rho Reservation = omega arith
-one_rho Priority = omega arith
+pub completed_rho : (phase : PhaseType) (cost : ℕ) → (completed_in phase cost).rho ≤ (completed_in phase cost).delta
+completed_rho Reservation cost = omega arith
+completed_rho Priority cost = omega arith
 
-pub one_delta : (phase : PhaseType) → (one_in phase).delta ≡ 1
-one_delta Reservation = refl
-one_delta Priority = refl
+pub completed_delta : (phase : PhaseType) (cost : ℕ) → (completed_in phase cost).delta ≡ cost
+completed_delta Reservation cost = refl
+completed_delta Priority cost = refl
 
-mark-grown : (counting : Counting) (most : ℕ) (comps : Counts) (phase : PhaseType) (x : ServerCounts) → IsKept counting most comps x
-    → IsPart x.mark (counted_at counting (plus comps (one_in phase)) x)
-mark-grown All most comps phase x h = part-grown x.mark comps (one_in phase) (one_rho phase) h.mark
-mark-grown Others most comps phase x h =
-    rw (minus-plus comps x.own (one_in phase) h.own) (part-grown x.mark (minus comps x.own) (one_in phase) (one_rho phase) h.mark)
+mark-grown : (counting : Counting) (most : ℕ) (comps : Counts) (phase : PhaseType) (cost : ℕ) (x : ServerCounts) → IsKept counting most comps x
+    → IsPart x.mark (counted_at counting (plus comps (completed_in phase cost)) x)
+mark-grown All most comps phase cost x h = part-grown x.mark comps (completed_in phase cost) (completed_rho phase cost) h.mark
+mark-grown Others most comps phase cost x h =
+    rw (minus-plus comps x.own (completed_in phase cost) h.own) (part-grown x.mark (minus comps x.own) (completed_in phase cost) (completed_rho phase cost) h.mark)
 
-mark-answered : (counting : Counting) (most : ℕ) (comps : Counts) (phase : PhaseType) (x : ServerCounts) → IsKept counting most comps x
-    → IsPart x.mark (counted_at counting (plus comps (one_in phase)) (answered phase x))
-mark-answered All most comps phase x h = part-grown x.mark comps (one_in phase) (one_rho phase) h.mark
-mark-answered Others most comps phase x h = rw (minus-both comps x.own (one_in phase)) h.mark
+mark-answered : (counting : Counting) (most : ℕ) (comps : Counts) (phase : PhaseType) (cost : ℕ) (x : ServerCounts) → IsKept counting most comps x
+    → IsPart x.mark (counted_at counting (plus comps (completed_in phase cost)) (answered phase cost x))
+mark-answered All most comps phase cost x h = part-grown x.mark comps (completed_in phase cost) (completed_rho phase cost) h.mark
+mark-answered Others most comps phase cost x h = rw (minus-both comps x.own (completed_in phase cost)) h.mark
 
--- a response if the completions are fewer than `most`
+-- a response that takes the completions no further than `most`
 pub AreKept-response : (counting : Counting) (most : ℕ) (comps : Counts) (servers : List ServerCounts) (s : ServerId) (x : ServerCounts)
-    (phase : PhaseType) → AreKept counting most comps servers → s.0 < length servers → x ≡ get_or servers s.0 x → comps.delta < most
-    → AreKept counting most (plus comps (one_in phase)) (set servers s.0 (answered phase x))
-AreKept-response counting most comps servers s x phase kept within at fewer =
-    let after = plus comps (one_in phase) in
-    let new = answered phase x in
+    (phase : PhaseType) (cost : ℕ) → AreKept counting most comps servers → s.0 < length servers → x ≡ get_or servers s.0 x → comps.delta + cost ≤ most
+    → AreKept counting most (plus comps (completed_in phase cost)) (set servers s.0 (answered phase cost x))
+AreKept-response counting most comps servers s x phase cost kept within at bound =
+    let after = plus comps (completed_in phase cost) in
+    let new = answered phase cost x in
     let before : IsKept counting most comps x = rw at (kept.each s.0 x within) in
     let grown_each : Each (IsKept counting most after) servers = λ k d inside.
     let h = kept.each k d inside in
     record {
-      own = part-grown _ comps (one_in phase) (one_rho phase) h.own;
-      mark = mark-grown counting most comps phase _ h;
+      own = part-grown _ comps (completed_in phase cost) (completed_rho phase cost) h.own;
+      mark = mark-grown counting most comps phase cost _ h;
       sent_rho = h.sent_rho;
       sent_most = h.sent_most;
       skipped_rho = h.skipped_rho;
@@ -255,8 +255,8 @@ AreKept-response counting most comps servers s x phase kept within at fewer =
     }
     in
     let answered_is : IsKept counting most after new = record {
-      own = part-both x.own comps (one_in phase) before.own;
-      mark = mark-answered counting most comps phase x before;
+      own = part-both x.own comps (completed_in phase cost) before.own;
+      mark = mark-answered counting most comps phase cost x before;
       sent_rho = before.sent_rho;
       sent_most = before.sent_most;
       skipped_rho = before.skipped_rho;
@@ -268,36 +268,36 @@ AreKept-response counting most comps servers s x phase kept within at fewer =
       max_limit = kept.max_limit;
       some_servers = omega (arith, length-set servers s.0 new, kept.some_servers);
       servers_limit = omega (arith, length-set servers s.0 new, kept.servers_limit);
-      completions_rho = omega (arith, kept.completions_rho, one_rho phase);
-      completions_most = omega (arith, fewer, one_delta phase);
+      completions_rho = omega (arith, kept.completions_rho, completed_rho phase cost);
+      completions_most = omega (arith, bound, completed_delta phase cost);
       each = All-set (IsKept counting most after) servers s.0 new answered_is grown_each;
     }
 
 -- a response, seen at all servers
 servers-response : (counting : Counting) (most : ℕ) (comps : Counts) (servers : List ServerCounts) (s : ServerId) (x : ServerCounts)
-    (phase : PhaseType) → AreKept counting most comps servers → s.0 < length servers → x ≡ get_or servers s.0 x
-    → map (numbers_now counting (plus comps (one_in phase))) (set servers s.0 (answered phase x))
-    ≡ servers_grown counting s phase (map (numbers_now counting comps) servers)
-servers-response All most comps servers s x phase kept within at =
-    map-set_same (numbers_now All (plus comps (one_in phase))) servers s.0 (answered phase x) x
-    (ap (λ (y : ServerCounts). numbers_now All (plus comps (one_in phase)) y) at)
-    ∙ map-grown All most comps phase servers kept.each
-servers-response Others most comps servers s x phase kept within at =
+    (phase : PhaseType) (cost : ℕ) → AreKept counting most comps servers → s.0 < length servers → x ≡ get_or servers s.0 x
+    → map (numbers_now counting (plus comps (completed_in phase cost))) (set servers s.0 (answered phase cost x))
+    ≡ servers_grown counting s phase cost (map (numbers_now counting comps) servers)
+servers-response All most comps servers s x phase cost kept within at =
+    map-set_same (numbers_now All (plus comps (completed_in phase cost))) servers s.0 (answered phase cost x) x
+    (ap (λ (y : ServerCounts). numbers_now All (plus comps (completed_in phase cost)) y) at)
+    ∙ map-grown All most comps phase cost servers kept.each
+servers-response Others most comps servers s x phase cost kept within at =
     let f = numbers_now Others comps in
-    let after = numbers_now Others (plus comps (one_in phase)) in
-    map-set after servers s.0 (answered phase x)
-    ∙ ap (λ (ys : List ServerNumbers). set ys s.0 (after (answered phase x))) (map-grown Others most comps phase servers kept.each)
-    ∙ ap (λ (y : ServerNumbers). set (map (grown phase) (map f servers)) s.0 y)
-    (now-answered comps phase x ∙ sym (seen_at Others most comps servers s x within at))
+    let after = numbers_now Others (plus comps (completed_in phase cost)) in
+    map-set after servers s.0 (answered phase cost x)
+    ∙ ap (λ (ys : List ServerNumbers). set ys s.0 (after (answered phase cost x))) (map-grown Others most comps phase cost servers kept.each)
+    ∙ ap (λ (y : ServerNumbers). set (map (grown phase cost) (map f servers)) s.0 y)
+    (now-answered comps phase cost x ∙ sym (seen_at Others most comps servers s x within at))
 
 pub view-response : (counting : Counting) (most : ℕ) (comps : Counts) (servers : List ServerCounts) (s : ServerId) (x : ServerCounts)
-    (phase : PhaseType) → AreKept counting most comps servers → s.0 < length servers → x ≡ get_or servers s.0 x
-    → view_of counting most (plus comps (one_in phase)) (set servers s.0 (answered phase x))
-    ≡ after_response s phase (view_of counting most comps servers)
-view-response counting most comps servers s x phase kept within at =
-    let view = view_of counting most (plus comps (one_in phase)) servers in
+    (phase : PhaseType) (cost : ℕ) → AreKept counting most comps servers → s.0 < length servers → x ≡ get_or servers s.0 x
+    → view_of counting most (plus comps (completed_in phase cost)) (set servers s.0 (answered phase cost x))
+    ≡ after_response s phase cost (view_of counting most comps servers)
+view-response counting most comps servers s x phase cost kept within at =
+    let view = view_of counting most (plus comps (completed_in phase cost)) servers in
     ap (λ (ys : List ServerNumbers). let n : Numbers = record view { servers = ys } in n)
-    (servers-response counting most comps servers s x phase kept within at)
+    (servers-response counting most comps servers s x phase cost kept within at)
 
 map-replicate : {X Y : Type 0} (f : X → Y) (n : ℕ) (x : X) → map f (replicate n x) ≡ replicate n (f x)
 map-replicate f zero x = refl

@@ -1,6 +1,5 @@
 -- The tracker's calls, from what the calls in them ensure: the counts fit, and the numbers are those that are promised.
 use Rattle.std.proofs.Common.{◌≡◌, ◌≢◌, ◌↔◌, ℕ, ◌+◌, ◌<◌, ◌≤◌, ◌^◌, List, [], ◌∷◌, ◌++◌, length, set, get_or, slice_get, Option, Some, None, Result, Ok, Err, refl, sym, ap, ◌∙◌, subst, inl, inr, arith}
-use Rattle.std.specs.Prelude.{is_ok, IsOk}
 use Rattle.std.specs.Option.{option_map}
 use Rattle.std.proofs.lemmas.Bool.{cases_lt}
 use Rattle.std.proofs.lemmas.Option.{slice_get-map, slice_get-get_or, slice_get_past}
@@ -15,10 +14,11 @@ use Rattle.dmc_tracker.specs.declared.server.ServerCounts.{ServerCounts}
 use Rattle.dmc_tracker.specs.declared.tracker.TrackFault.TheVariants.{NoServer, TrackFull}
 use Rattle.dmc_tracker.specs.declared.event.TrackerEvent.{TrackerEvent}
 use Rattle.dmc_tracker.specs.declared.event.TrackerEvent.TheVariants.{Stamp, Skip, Response}
-use Rattle.dmc_tracker.specs.TrackerList.{plus, one_in, own_share, demanded, IsComplete, IsStampFull, IsTooMuch}
-use Rattle.dmc_tracker.specs.Numbers.{Numbers, ServerNumbers, pending_pair, numbers_at, next_counts, next_params, after_stamp, after_skip, after_response, IsFullAt, RepresentsEvents, Keeps}
-use Rattle.dmc_tracker.specs.Server.{minus, IsPart, counted_at, numbers_now, view_of, IsKept, AreKept}
-use Rattle.dmc_tracker.proofs.ServerLemmas.{seen_at, next_counts-view, view-stamp, AreKept-stamp, view-skip, AreKept-skip, AreKept-response, view-response, one_delta, one_rho}
+use Rattle.dmc_tracker.specs.TrackerList.{plus, completed_in, own_share, demanded, IsResponseFull, IsStampFull, IsTooMuch}
+use Rattle.dmc_tracker.specs.Numbers.{Numbers, ServerNumbers, pending_pair, numbers_at, next_counts, next_params, after_stamp, after_skip, after_response, IsFullAt, IsCompleteAt, RepresentsEvents, Keeps}
+use Rattle.dmc_tracker.specs.Parts.{minus, IsPart}
+use Rattle.dmc_tracker.specs.Server.{counted_at, numbers_now, view_of, IsKept, AreKept}
+use Rattle.dmc_tracker.proofs.ServerLemmas.{seen_at, next_counts-view, view-stamp, AreKept-stamp, view-skip, AreKept-skip, AreKept-response, view-response, completed_delta, completed_rho}
 use Rattle.dmc_tracker.proofs.RepresentsLemmas.{next_params-represents, RepresentsEvents-stamp, RepresentsEvents-skip, RepresentsEvents-response}
 
 -- ---- what the result says of a refusal
@@ -55,25 +55,26 @@ module _ {counting : Counting} {most : ℕ} {comps : Counts} {items : List Serve
     pub within_all : i < n → i < length now.servers
     within_all l = omega (arith, l, length_is, as_many)
 
-  -- the completions are `most`, also by the list
-  module _ (full : comps.delta ≡ most) where
-    pub all_counted : now.completions.delta ≡ now.most
-    all_counted =
-        sym (ap (λ (n : Numbers). n.completions.delta) view) ∙ full ∙ ap (λ (n : Numbers). n.most) view
+  -- a response of this cost would take the completions past `most`, also by the list
+  module _ (cost : ℕ) (past : most < comps.delta + cost) where
+    pub past_most : now.most < now.completions.delta + cost
+    past_most =
+        omega (arith, past, ap (λ (n : Numbers). n.completions.delta) view, ap (λ (n : Numbers). n.most) view)
 
-    pub all_counted_by_list : {events : List TrackerEvent} → RepresentsEvents now events → IsComplete now.most events
-    all_counted_by_list represents = ap (λ (p : Counts). p.delta) (sym represents.completed) ∙ all_counted
+    pub past_most_by_list : {events : List TrackerEvent} → RepresentsEvents now events → IsResponseFull now.most cost events
+    past_most_by_list represents = omega (arith, past_most, ap (λ (p : Counts). p.delta) represents.completed)
 
-  module _ (fewer : comps.delta ≢ most) where
-    pub more_to_count : now.completions.delta < now.most
+  module _ (cost : ℕ) (fits : comps.delta + cost ≤ most) where
+    pub more_to_count : now.completions.delta + cost ≤ now.most
     more_to_count =
-        omega (arith, fewer, kept.completions_most, ap (λ (n : Numbers). n.completions.delta) view, ap (λ (n : Numbers). n.most) view)
+        omega (arith, fits, ap (λ (n : Numbers). n.completions.delta) view, ap (λ (n : Numbers). n.most) view)
 
-    pub not_all_counted : now.completions.delta ≡ now.most → ⊥
-    not_all_counted all = omega (arith, more_to_count, all)
+    pub not_past_most : {s : ServerId} → IsCompleteAt now s cost → ⊥
+    not_past_most complete = not_past complete.past more_to_count
 
-    pub not_complete : {events : List TrackerEvent} → RepresentsEvents now events → IsComplete now.most events → ⊥
-    not_complete represents all = omega (arith, more_to_count, all, ap (λ (p : Counts). p.delta) represents.completed)
+    pub not_past_most_by_list : {events : List TrackerEvent} → RepresentsEvents now events → IsResponseFull now.most cost events → ⊥
+    not_past_most_by_list represents past =
+        omega (arith, more_to_count, past, ap (λ (p : Counts). p.delta) represents.completed)
 
   -- what contracts see of the server at a place
   read_server : (i : ℕ) {found : Option ServerCounts} → slice_get items i ≡ found → slice_get now.servers i ≡ option_map (numbers_now counting comps) found
@@ -116,29 +117,32 @@ module _ {counting : Counting} {most : ℕ} {comps : Counts} {items : List Serve
 
     -- ---- a response
 
-    module _ (phase : PhaseType) {one : Counts} (one_is : one ≡ one_in phase) (not_full : now.completions.delta ≢ now.most) where
-      room_for_one : comps.delta < most
-      room_for_one = omega (arith, not_full, kept.completions_most, ap (λ (n : Numbers). n.completions.delta) view, ap (λ (n : Numbers). n.most) view)
+    module _ (phase : PhaseType) (cost : ℕ) {response : Counts} (response_is : response ≡ completed_in phase cost) (fits : now.completions.delta + cost ≤ now.most) where
+      room_for_response : comps.delta + cost ≤ most
+      room_for_response = omega (arith, fits, ap (λ (n : Numbers). n.completions.delta) view, ap (λ (n : Numbers). n.most) view)
 
-      ones : (one.delta ≡ 1) × (one.rho ≤ 1)
-      ones = rw one_is (one_delta phase, omega (arith, one_delta phase, one_rho phase))
+      costs : (response.delta ≡ cost) × (response.rho ≤ cost)
+      costs = rw response_is (completed_delta phase cost, omega (arith, completed_delta phase cost, completed_rho phase cost))
 
-      comps_fit : (comps.delta + one.delta < 2 ^ 64) × (comps.rho + one.rho < 2 ^ 64)
-      comps_fit =
-          (omega (arith, room_for_one, ones.0, kept.max_limit), omega (arith, room_for_one, ones.1, kept.completions_rho, kept.max_limit))
+      comps_fit : (comps.delta + response.delta < 2 ^ 64) × (comps.rho + response.rho < 2 ^ 64)
+      comps_fit = (
+        omega (arith, room_for_response, costs.0, kept.max_limit),
+        omega (arith, room_for_response, costs.1, kept.completions_rho, kept.max_limit),
+      )
 
-      pub own_fits : (x.own.delta + one.delta < 2 ^ 64) × (x.own.rho + one.rho < 2 ^ 64)
+      pub own_fits : (x.own.delta + response.delta < 2 ^ 64) × (x.own.rho + response.rho < 2 ^ 64)
       own_fits =
           (omega (arith, comps_fit.0, own_part.delta), omega (arith, comps_fit.1, own_part.rho))
 
-      module _ {comps' own' : Counts} (comps_are : comps' ≡ plus comps one) (own_is : own' ≡ plus x.own one) where
+      module _ {comps' own' : Counts} (comps_are : comps' ≡ plus comps response) (own_is : own' ≡ plus x.own response) where
         pub response_kept : AreKept counting most comps' (set items s.0 (record { sent = x.sent; skipped = x.skipped; own = own'; mark = x.mark }))
         response_kept =
-            rw (comps_are, own_is, one_is) (AreKept-response counting most comps items s x phase kept inside at room_for_one)
+            rw (comps_are, own_is, response_is) (AreKept-response counting most comps items s x phase cost kept inside at room_for_response)
 
-        pub response_seen : view_of counting most comps' (set items s.0 (record { sent = x.sent; skipped = x.skipped; own = own'; mark = x.mark })) ≡ after_response s phase now
+        pub response_seen : view_of counting most comps' (set items s.0 (record { sent = x.sent; skipped = x.skipped; own = own'; mark = x.mark })) ≡ after_response s phase cost now
         response_seen =
-            rw (comps_are, own_is, one_is) (view-response counting most comps items s x phase kept inside at) ∙ ap (after_response s phase) view
+            rw (comps_are, own_is, response_is) (view-response counting most comps items s x phase cost kept inside at)
+            ∙ ap (after_response s phase cost) view
 
     -- ---- what is pending, and a skip
 
@@ -176,36 +180,36 @@ module _ {counting : Counting} {most : ℕ} {comps : Counts} {items : List Serve
 
       -- ---- a stamp
 
-      module _ {own : Counts} (own_is : own ≡ own_share counting) where
-        next_is : next_counts now s ≡ plus left own
+      module _ {cost : ℕ} {own : Counts} (own_is : own ≡ own_share counting cost) (narrow : cost < 2 ^ 32) where
+        next_is : next_counts now s cost ≡ plus left own
         next_is =
-            ap (λ n. next_counts n s) (sym view)
-            ∙ next_counts-view counting most comps items s x inside at
+            ap (λ n. next_counts n s cost) (sym view)
+            ∙ next_counts-view counting most cost comps items s x inside at
             ∙ rw (left_is, counted_is, own_is) refl
 
-        share : (own.rho ≤ own.delta) × (own.delta ≤ 1)
+        share : (own.rho ≤ own.delta) × (own.delta ≤ cost)
         share = rw own_is (at_form counting) where
-          at_form : (form : Counting) → ((own_share form).rho ≤ (own_share form).delta) × ((own_share form).delta ≤ 1)
+          at_form : (form : Counting) → ((own_share form cost).rho ≤ (own_share form cost).delta) × ((own_share form cost).delta ≤ cost)
           at_form All = (omega arith, omega arith)
           at_form Others = (omega arith, omega arith)
 
         pub params_fit : (left.delta + own.delta < 2 ^ 64) × (left.rho + own.rho < 2 ^ 64)
         params_fit = (
-          omega (arith, left_most, share, kept.max_limit),
-          omega (arith, left_most, left_rho, share, kept.max_limit),
+          omega (arith, left_most, share, narrow, kept.max_limit),
+          omega (arith, left_most, left_rho, share, narrow, kept.max_limit),
         )
 
         module _ {params : Counts} (params_is : params ≡ plus left own) where
           params_delta : params.delta ≡ left.delta + own.delta
           params_delta = ap (λ (p : Counts). p.delta) params_is
 
-          carried : params ≡ next_counts now s
+          carried : params ≡ next_counts now s cost
           carried = params_is ∙ sym next_is
 
           is_params : params.rho ≤ params.delta
           is_params = rw params_is (omega (arith, left_rho, share))
 
-          computed : params ≡ plus (numbers_now counting comps x).pending (own_share counting)
+          computed : params ≡ plus (numbers_now counting comps x).pending (own_share counting cost)
           computed = rw (params_is, left_is, own_is, counted_is) refl
 
           sent_now : (numbers_at now s).sent.delta ≡ x.sent.delta
@@ -215,24 +219,24 @@ module _ {counting : Counting} {most : ℕ} {comps : Counts} {items : List Serve
 
           -- the test of a stamp: its sum fits, and what it says
           pub sum_fits : x.sent.delta + params.delta < 2 ^ 64
-          sum_fits = omega (arith, params_delta, left_most, share, kept_at.sent_most, kept.max_limit)
+          sum_fits = omega (arith, params_delta, left_most, share, narrow, kept_at.sent_most, kept.max_limit)
 
-          seen_full : IsTooMuch counting most x.sent.delta params.delta ≡ IsTooMuch now.counting now.most (numbers_at now s).sent.delta (next_counts now s).delta
+          seen_full : IsTooMuch counting most x.sent.delta params.delta ≡ IsTooMuch now.counting now.most (numbers_at now s).sent.delta (next_counts now s cost).delta
           seen_full =
               ap (λ (n : Numbers). IsTooMuch n.counting n.most x.sent.delta params.delta) view
               ∙ ap (λ n. IsTooMuch now.counting now.most n params.delta) (sym sent_now)
               ∙ ap (λ (p : Counts). IsTooMuch now.counting now.most (numbers_at now s).sent.delta p.delta) carried
 
-          pub is_full : IsTooMuch counting most x.sent.delta params.delta → IsFullAt now s
+          pub is_full : IsTooMuch counting most x.sent.delta params.delta → IsFullAt now s cost
           is_full h = record { within = within; past = subst (λ (t : Type 0). t) seen_full h }
 
-          pub is_not_full : (IsTooMuch counting most x.sent.delta params.delta → ⊥) → IsFullAt now s → ⊥
+          pub is_not_full : (IsTooMuch counting most x.sent.delta params.delta → ⊥) → IsFullAt now s cost → ⊥
           is_not_full none h = none (subst (λ (t : Type 0). t) (sym seen_full) h.past)
 
           module _ (fits : IsTooMuch counting most x.sent.delta params.delta → ⊥) where
             bounds : (params.delta ≤ max_count) × (x.sent.delta + params.delta ≤ most)
             bounds = by counting kept_at.sent_all own_is fits where
-              by : (form : Counting) → (form ≡ All → plus x.sent x.skipped ≡ x.mark) → own ≡ own_share form
+              by : (form : Counting) → (form ≡ All → plus x.sent x.skipped ≡ x.mark) → own ≡ own_share form cost
                   → (IsTooMuch form most x.sent.delta params.delta → ⊥) → (params.delta ≤ max_count) × (x.sent.delta + params.delta ≤ most)
               by All sums none fits =
                   let sum = ap (λ (p : Counts). p.delta) (sums refl) in
@@ -246,16 +250,16 @@ module _ {counting : Counting} {most : ℕ} {comps : Counts} {items : List Serve
                 elim (cases_lt most (x.sent.delta + params.delta)) [ inl l ↦ absurd (fits (inr l)) | inr l ↦ l ],
               )
 
-            pub sent_bound : (numbers_at now s).sent.delta + (next_counts now s).delta ≤ now.most
+            pub sent_bound : (numbers_at now s).sent.delta + (next_counts now s cost).delta ≤ now.most
             sent_bound =
                 omega (arith, bounds.1, sent_now, ap (λ (p : Counts). p.delta) carried, ap (λ (n : Numbers). n.most) view)
 
-            pub count_bound : (next_counts now s).delta ≤ max_count
+            pub count_bound : (next_counts now s cost).delta ≤ max_count
             count_bound = omega (arith, bounds.0, ap (λ (p : Counts). p.delta) carried)
 
           -- ---- what the test let through
 
-          module _ (not_full : IsFullAt now s → ⊥) where
+          module _ (not_full : IsFullAt now s cost → ⊥) where
             limits : (params.delta ≤ max_count) × (x.sent.delta + params.delta ≤ most)
             limits = bounds (λ h. not_full (is_full h))
 
@@ -266,56 +270,45 @@ module _ {counting : Counting} {most : ℕ} {comps : Counts} {items : List Serve
             sent_fits =
                 (omega (arith, room, kept.max_limit), omega (arith, room, is_params, kept_at.sent_rho, kept.max_limit))
 
-            pub narrow_counts : (params.delta < 2 ^ 32) × (params.rho < 2 ^ 32)
-            narrow_counts =
-                let d : params.delta < 2 ^ 32 = omega (arith, limits.0) in
-                (d, omega (arith, d, is_params))
-
             pub stamp_kept : {sent' : Counts} → sent' ≡ plus x.sent params → AreKept counting most comps (set items s.0 (record { sent = sent'; skipped = x.skipped; own = x.own; mark = counted }))
             stamp_kept e =
-                rw (e, counted_is) (AreKept-stamp counting most comps params items s x kept inside at computed room)
+                rw (e, counted_is) (AreKept-stamp counting most cost comps params items s x kept inside at computed room)
 
-            pub stamp_seen : {sent' : Counts} → sent' ≡ plus x.sent params → view_of counting most comps (set items s.0 (record { sent = sent'; skipped = x.skipped; own = x.own; mark = counted })) ≡ after_stamp s now
+            pub stamp_seen : {sent' : Counts} → sent' ≡ plus x.sent params → view_of counting most comps (set items s.0 (record { sent = sent'; skipped = x.skipped; own = x.own; mark = counted })) ≡ after_stamp s cost now
             stamp_seen e =
-                rw (e, counted_is) (view-stamp counting most comps params items s x inside at computed) ∙ ap (after_stamp s) view
+                rw (e, counted_is) (view-stamp counting most cost comps params items s x inside at computed) ∙ ap (after_stamp s cost) view
 
-            made_is : {E : Type 0} {d r : ℕ} {made : Result Params E} → ◌≡◌ {A = Counts} (record { delta = d; rho = r }) params → (r ≤ d → made ≡ Ok (record { delta = d; rho = r })) → made ≡ Ok (params_with params)
-            made_is e ok =
-                ok (omega (arith, ap (λ (p : Counts). p.delta) e, ap (λ (p : Counts). p.rho) e, is_params))
-                ∙ ap {B = Result Params _} (λ (p : Counts). Ok (params_with p)) e
+            -- what is handed out is what was computed, with the cost
+            pub narrow_stamp : params.delta ≤ max_count
+            narrow_stamp = limits.0
 
-            -- what is handed out is what was computed
-            module _ {E : Type 0} {d r : ℕ} {made : Result Params E} (e : ◌≡◌ {A = Counts} (record { delta = d; rho = r }) params) (ok : r ≤ d → made ≡ Ok (record { delta = d; rho = r })) where
-              pub is_made : IsOk made
-              is_made = ap is_ok (made_is e ok)
+            pub ordered_stamp : params.rho ≤ params.delta
+            ordered_stamp = is_params
 
-              pub handed_out : {given : Params} → made ≡ Ok given → given ≡ next_params now s
-              handed_out {given} h =
-                  let same : ◌≡◌ {A = Result Params E} (Ok given) (Ok (params_with params)) = sym h ∙ made_is e ok in
-                  let its : given ≡ params_with params = cc in
-                  its ∙ ap params_with carried
+            pub handed_out : {given : Params} → given ≡ params_with params cost → given ≡ next_params now s cost
+            handed_out e = e ∙ ap (λ p. params_with p cost) carried
 
 -- the list after a stamp
-pub represents_after : {now new : Numbers} {s : ServerId} {params : Params} → s.0 < length now.servers → new ≡ after_stamp s now → params ≡ next_params now s
-    → (events : List TrackerEvent) → RepresentsEvents now events → (params ≡ demanded now.counting s events) × RepresentsEvents new (events ++ Stamp s params ∷ [])
-represents_after {now} {s = s} {params = params} within e p events represents =
-    (p ∙ next_params-represents now events s within represents, rw (e, p) (RepresentsEvents-stamp now events s within represents))
+pub represents_after : {now new : Numbers} {s : ServerId} {cost : ℕ} {params : Params} → s.0 < length now.servers → new ≡ after_stamp s cost now → params ≡ next_params now s cost
+    → (events : List TrackerEvent) → RepresentsEvents now events → (params ≡ demanded now.counting s cost events) × RepresentsEvents new (events ++ Stamp s params ∷ [])
+represents_after {now} {s = s} {cost = cost} {params = params} within e p events represents =
+    (p ∙ next_params-represents now events s cost within represents, rw (e, p) (RepresentsEvents-stamp now events s cost within represents))
 
 -- the list after a skip
 pub represents_after_skip : {now new : Numbers} {s : ServerId} → s.0 < length now.servers → new ≡ after_skip s now → (events : List TrackerEvent) → RepresentsEvents now events → RepresentsEvents new (events ++ Skip s ∷ [])
 represents_after_skip {now} {s = s} within e events represents = rw e (RepresentsEvents-skip now events s within represents)
 
 -- the list after a response
-pub represents_after_response : {now new : Numbers} (s : ServerId) (phase : PhaseType) → new ≡ after_response s phase now → (events : List TrackerEvent) → RepresentsEvents now events → RepresentsEvents new (events ++ Response s phase ∷ [])
-represents_after_response {now} s phase e events represents = rw e (RepresentsEvents-response now events s phase represents)
+pub represents_after_response : {now new : Numbers} (s : ServerId) (phase : PhaseType) (cost : ℕ) → new ≡ after_response s phase cost now → (events : List TrackerEvent) → RepresentsEvents now events → RepresentsEvents new (events ++ Response s phase cost ∷ [])
+represents_after_response {now} s phase cost e events represents = rw e (RepresentsEvents-response now events s phase cost represents)
 
 -- what is full by the numbers is so by the list
-module _ {now : Numbers} {s : ServerId} {events : List TrackerEvent} (represents : RepresentsEvents now events) where
-  same_test : s.0 < length now.servers → IsTooMuch now.counting now.most (numbers_at now s).sent.delta (next_counts now s).delta ≡ IsStampFull now.counting now.most s events
+module _ {now : Numbers} {s : ServerId} (cost : ℕ) {events : List TrackerEvent} (represents : RepresentsEvents now events) where
+  same_test : s.0 < length now.servers → IsTooMuch now.counting now.most (numbers_at now s).sent.delta (next_counts now s cost).delta ≡ IsStampFull now.counting now.most s cost events
   same_test within =
-      ap (λ (n : ServerNumbers). IsTooMuch now.counting now.most n.sent.delta (plus n.pending (own_share now.counting)).delta) (represents.each s within)
+      ap (λ (n : ServerNumbers). IsTooMuch now.counting now.most n.sent.delta (plus n.pending (own_share now.counting cost)).delta) (represents.each s within)
 
-  pub full_by_list : {A : Type 0} → A ↔ IsFullAt now s → A ↔ ((s.0 < length now.servers) × IsStampFull now.counting now.most s events)
+  pub full_by_list : {A : Type 0} → A ↔ IsFullAt now s cost → A ↔ ((s.0 < length now.servers) × IsStampFull now.counting now.most s cost events)
   full_by_list is = (
     λ a. let f = is.0 a in (f.within, subst (λ (t : Type 0). t) (same_test f.within) f.past),
     λ h. is.1 (record { within = h.0; past = subst (λ (t : Type 0). t) (sym (same_test h.0)) h.1 }),

@@ -1,5 +1,5 @@
 -- What contracts see of a tracker: the numbers of a tracker list, and no list.
-use Rattle.std.specs.Prelude.{◌≡◌, ℕ, ◌<◌, ◌≤◌, List, length, map, replicate, slice_set, slice_index_or}
+use Rattle.std.specs.Prelude.{◌≡◌, ℕ, ◌+◌, ◌<◌, ◌≤◌, List, length, map, replicate, slice_set, slice_index_or}
 use Rattle.dmc_types.specs.Limits.{max_completions, max_servers}
 use Rattle.dmc_types.specs.Values.{Params, Counts, no_counts, params_with}
 use Rattle.dmc_types.specs.declared.ids.ServerId.{ServerId}
@@ -7,7 +7,7 @@ use Rattle.dmc_types.specs.declared.config.Counting.{Counting}
 use Rattle.dmc_types.specs.declared.config.Counting.TheVariants.{All, Others}
 use Rattle.dmc_types.specs.declared.config.PhaseType.{PhaseType}
 use Rattle.dmc_tracker.specs.declared.event.TrackerEvent.{TrackerEvent}
-use Rattle.dmc_tracker.specs.TrackerList.{plus, one_in, own_share, completions, sent, skipped, pending, IsTooMuch}
+use Rattle.dmc_tracker.specs.TrackerList.{plus, completed_in, own_share, completions, sent, skipped, pending, IsTooMuch}
 
 -- what was sent to a server, what was skipped and what is pending there
 pub record ServerNumbers : Type 0 where
@@ -53,23 +53,28 @@ pending_pair server = (server.pending.delta, server.pending.rho)
 abbrev pub numbers_at : Numbers → ServerId → ServerNumbers
 numbers_at numbers s = slice_index_or numbers.servers s.0 no_numbers
 
--- what the next stamp to s counts, and what it carries
-abbrev pub next_counts : Numbers → ServerId → Counts
-next_counts numbers s = plus (numbers_at numbers s).pending (own_share numbers.counting)
+-- what the next stamp to s counts, if its request has this cost, and what it carries
+abbrev pub next_counts : Numbers → ServerId → ℕ → Counts
+next_counts numbers s cost = plus (numbers_at numbers s).pending (own_share numbers.counting cost)
 
-abbrev pub next_params : Numbers → ServerId → Params
-next_params numbers s = params_with (next_counts numbers s)
+abbrev pub next_params : Numbers → ServerId → ℕ → Params
+next_params numbers s cost = params_with (next_counts numbers s cost) cost
 
 -- the delta of the next stamp to s is too much
-pub record IsFullAt (numbers : Numbers) (s : ServerId) : Type 0 where
+pub record IsFullAt (numbers : Numbers) (s : ServerId) (cost : ℕ) : Type 0 where
   pub within : s.0 < length numbers.servers
-  pub past : IsTooMuch numbers.counting numbers.most (numbers_at numbers s).sent.delta (next_counts numbers s).delta
+  pub past : IsTooMuch numbers.counting numbers.most (numbers_at numbers s).sent.delta (next_counts numbers s cost).delta
+
+-- a response of this cost would take the completions past `most`
+pub record IsCompleteAt (numbers : Numbers) (s : ServerId) (cost : ℕ) : Type 0 where
+  pub within : s.0 < length numbers.servers
+  pub past : numbers.most < numbers.completions.delta + cost
 
 -- a stamp to s sends what was pending there, and its own share
-abbrev pub after_stamp : ServerId → Numbers → Numbers
-after_stamp s numbers = record numbers {
+abbrev pub after_stamp : ServerId → ℕ → Numbers → Numbers
+after_stamp s cost numbers = record numbers {
   servers = slice_set numbers.servers s.0 (record {
-    sent = plus (numbers_at numbers s).sent (next_counts numbers s);
+    sent = plus (numbers_at numbers s).sent (next_counts numbers s cost);
     skipped = (numbers_at numbers s).skipped;
     pending = no_counts;
   });
@@ -86,18 +91,18 @@ after_skip s numbers = record numbers {
 }
 
 -- a response becomes pending
-abbrev pub grown : PhaseType → ServerNumbers → ServerNumbers
-grown phase server = record server { pending = plus server.pending (one_in phase) }
+abbrev pub grown : PhaseType → ℕ → ServerNumbers → ServerNumbers
+grown phase cost server = record server { pending = plus server.pending (completed_in phase cost) }
 
 -- a response of s becomes pending at each server, in `Others` at each but s
-abbrev pub servers_grown : Counting → ServerId → PhaseType → List ServerNumbers → List ServerNumbers
-servers_grown All s phase servers = map (grown phase) servers
-servers_grown Others s phase servers = slice_set (map (grown phase) servers) s.0 (slice_index_or servers s.0 no_numbers)
+abbrev pub servers_grown : Counting → ServerId → PhaseType → ℕ → List ServerNumbers → List ServerNumbers
+servers_grown All s phase cost servers = map (grown phase cost) servers
+servers_grown Others s phase cost servers = slice_set (map (grown phase cost) servers) s.0 (slice_index_or servers s.0 no_numbers)
 
-abbrev pub after_response : ServerId → PhaseType → Numbers → Numbers
-after_response s phase numbers = record numbers {
-  completions = plus numbers.completions (one_in phase);
-  servers = servers_grown numbers.counting s phase numbers.servers;
+abbrev pub after_response : ServerId → PhaseType → ℕ → Numbers → Numbers
+after_response s phase cost numbers = record numbers {
+  completions = plus numbers.completions (completed_in phase cost);
+  servers = servers_grown numbers.counting s phase cost numbers.servers;
 }
 
 -- the numbers of s in a list

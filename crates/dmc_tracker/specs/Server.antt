@@ -1,21 +1,13 @@
 -- What a tracker keeps for a server, in the place of a list. No public clause cites this module.
-use Rattle.std.specs.Prelude.{◌≡◌, ℕ, ◌+◌, ◌-◌, ◌<◌, ◌≤◌, List, length, map, All as Each}
+use Rattle.std.specs.Prelude.{◌≡◌, ℕ, ◌<◌, ◌≤◌, List, length, map, All as Each}
 use Rattle.dmc_types.specs.Limits.{max_completions, max_servers}
 use Rattle.dmc_types.specs.Values.{Counts}
 use Rattle.dmc_types.specs.declared.config.Counting.{Counting}
 use Rattle.dmc_types.specs.declared.config.Counting.TheVariants.{All, Others}
 use Rattle.dmc_tracker.specs.declared.server.ServerCounts.{ServerCounts}
+use Rattle.dmc_tracker.specs.Parts.{minus, IsPart}
 use Rattle.dmc_tracker.specs.TrackerList.{plus}
 use Rattle.dmc_tracker.specs.Numbers.{Numbers, ServerNumbers}
-
-abbrev pub minus : Counts → Counts → Counts
-minus a b = record { delta = a.delta - b.delta; rho = a.rho - b.rho }
-
--- the first counts are a part of the second: so are their parts in the constraint phase, and what is left of them
-pub record IsPart (part whole : Counts) : Type 0 where
-  pub delta : part.delta ≤ whole.delta
-  pub rho : part.rho ≤ whole.rho
-  pub rest : part.delta + whole.rho ≤ whole.delta + part.rho
 
 -- the completions that the stamps to a server count
 abbrev pub counted_at : Counting → Counts → ServerCounts → Counts

@@ -1,13 +1,18 @@
-//! Two counts that go together.
+//! Two counts that go together: what every tracker adds up, and what it stamps.
 ghost use Rattle.std.specs.Prelude.{◌≡◌, ◌+◌, ◌-◌, ◌<◌, ◌≤◌, ◌^◌};
-ghost use Rattle.dmc_types.specs.Values.{no_counts};
-ghost use Rattle.dmc_tracker.specs.TrackerList.{plus, one_in, own_share};
-ghost use Rattle.dmc_tracker.specs.Server.{minus};
+ghost use Rattle.dmc_types.specs.Limits.{max_count};
+ghost use Rattle.dmc_types.specs.Values.{no_counts, counts_of, params_with};
+ghost use Rattle.dmc_tracker.specs.TrackerList.{plus, completed_in, own_share};
+ghost use Rattle.dmc_tracker.specs.Parts.{minus};
 
 use dmc_types::config::{Counting, PhaseType};
+use dmc_types::cost::Cost;
+use dmc_types::params::ReqParams;
 use std::marker::Model;
 
-/// How many responses, and how many of them in the constraint phase.
+/// Sums of the two counts of stamps: `delta` of all completions, `rho` of those of them in the constraint phase, both in units of
+/// cost. A tracker keeps such a sum of all that it counted, and one for each server as it was at the last stamp there: the next
+/// stamp carries the difference.
 #[derive(Clone, Copy, Debug, PartialEq, Eq)]
 pub struct Counts {
     pub delta: u64,
@@ -32,24 +37,41 @@ impl Counts {
         Counts { delta: 0, rho: 0 }
     }
 
-    /// One response.
-    pub fn one(phase: PhaseType) -> Counts
-        ensures { result ≡ one_in phase }
+    /// The two counts that a stamp carries.
+    pub fn of_stamp(params: ReqParams) -> Counts
+        ensures { result ≡ counts_of params }
     {
-        let rho = match phase {
-            PhaseType::Reservation => 1,
-            PhaseType::Priority => 0,
-        };
-        Counts { delta: 1, rho }
+        Counts {
+            delta: u64::from(params.delta()),
+            rho: u64::from(params.rho()),
+        }
     }
 
-    /// What a stamp counts for its own request.
-    pub fn own_share(counting: Counting) -> Counts
-        ensures { result ≡ own_share counting }
+    /// A response of this cost.
+    pub fn of_response(phase: PhaseType, cost: Cost) -> Counts
+        ensures { result ≡ completed_in phase cost }
+    {
+        let delta = u64::from(cost.units());
+        let rho = match phase {
+            PhaseType::Reservation => delta,
+            PhaseType::Priority => 0,
+        };
+        Counts { delta, rho }
+    }
+
+    /// What a stamp counts for its own request, of this cost.
+    pub fn own_share(counting: Counting, cost: Cost) -> Counts
+        ensures { result ≡ own_share counting cost }
     {
         match counting {
             Counting::All => Counts::none(),
-            Counting::Others => Counts { delta: 1, rho: 1 },
+            Counting::Others => {
+                let own = u64::from(cost.units());
+                Counts {
+                    delta: own,
+                    rho: own,
+                }
+            }
         }
     }
 
@@ -75,5 +97,15 @@ impl Counts {
             delta: self.delta - other.delta,
             rho: self.rho - other.rho,
         }
+    }
+
+    /// The stamp that carries these counts, for a request of this cost.
+    pub fn stamp(self, cost: Cost) -> ReqParams
+        requires delta { self.delta ≤ max_count }
+        requires rho { self.rho ≤ self.delta }
+        ensures { result ≡ params_with self cost }
+    {
+        let params = ReqParams::new(self.delta as u32, self.rho as u32).unwrap();
+        params.with_cost(cost)
     }
 }

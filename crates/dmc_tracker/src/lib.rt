@@ -3,7 +3,7 @@
 //! responses, which it does not keep.
 #![tactic(auto)]
 
-mod counts;
+pub mod counts;
 pub mod event;
 pub mod laws;
 mod server;

@@ -16,7 +16,8 @@ pub struct ServerCounts {
 }
 
 impl ServerCounts {
-    ghost use Rattle.dmc_tracker.specs.Server.{counted_at, IsPart};
+    ghost use Rattle.dmc_tracker.specs.Parts.{IsPart};
+    ghost use Rattle.dmc_tracker.specs.Server.{counted_at};
 
     /// Nothing was sent, skipped or completed.
     pub fn none() -> ServerCounts

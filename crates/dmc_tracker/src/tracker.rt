@@ -3,13 +3,14 @@ ghost use Rattle.std.specs.Prelude.{◌≡◌, ◌<◌, ◌≤◌, ◌+◌, ◌^
 ghost use Rattle.dmc_types.specs.Limits.{max_count, max_completions, max_servers};
 ghost use Rattle.dmc_types.specs.declared.config.Counting.{Counting};
 ghost use Rattle.dmc_tracker.specs.declared.event.TrackerEvent.{TrackerEvent};
-ghost use Rattle.dmc_tracker.specs.TrackerList.{demanded, IsComplete, IsStampFull, IsTooMuch};
-ghost use Rattle.dmc_tracker.specs.Numbers.{Numbers, new_numbers, numbers_at, next_params, after_stamp, after_skip, after_response, sent_pair, skipped_pair, pending_pair, AreLimits, IsFullAt, Keeps, RepresentsEvents};
+ghost use Rattle.dmc_tracker.specs.TrackerList.{demanded, IsResponseFull, IsStampFull, IsTooMuch};
+ghost use Rattle.dmc_tracker.specs.Numbers.{Numbers, new_numbers, numbers_at, next_params, after_stamp, after_skip, after_response, sent_pair, skipped_pair, pending_pair, AreLimits, IsCompleteAt, IsFullAt, Keeps, RepresentsEvents};
 
 use crate::counts::Counts;
 use crate::event::TrackerEvent;
 use crate::server::ServerCounts;
 use dmc_types::config::{Counting, PhaseType};
+use dmc_types::cost::Cost;
 use dmc_types::ids::ServerId;
 use dmc_types::limits::{MAX_COMPLETIONS, MAX_COUNT, MAX_SERVERS};
 use dmc_types::params::ReqParams;
@@ -52,8 +53,8 @@ impl From<AllocError> for MakeFault {
 /// The service tracker of one client, for servers 0, 1, .. (dmClock section of the mClock paper, and Ceph's
 /// `ServiceTracker`).
 ///
-/// It counts the client's completions, and stamps each request with two counts, delta of all of them and rho of those in
-/// the constraint phase, since the last stamp to the same server. Which completions a stamp counts is its `Counting`. A
+/// It counts the client's completions in units of cost, and stamps each request with two counts, delta of all of them and rho of
+/// those in the constraint phase, since the last stamp to the same server. Which completions a stamp counts is its `Counting`. A
 /// stamp's counts are at most 2^32-1: a client that sent nothing to a server for more completions than that skips them. A
 /// stamp, a skip and a response take constant time and no memory.
 #[derive(Drop)]
@@ -105,18 +106,18 @@ impl ServiceTracker {
     /// Whether the next stamp to a server would be refused, and why: `NoServer`, then `TrackFull` if its delta would pass
     /// 2^32-1 (its rho is no more), and in the form `Others` if it would take what was sent to the server past `most`. It
     /// changes nothing.
-    pub fn can_stamp(&self, server: ServerId) -> Result<(), TrackFault>
+    pub fn can_stamp(&self, server: ServerId, cost: Cost) -> Result<(), TrackFault>
         ensures within { OnOk result
-            ((numbers_at self.now server).sent.delta + (next_params self.now server).delta ≤ self.now.most) }
-        ensures carried { OnOk result ((next_params self.now server).delta ≤ max_count) }
+            ((numbers_at self.now server).sent.delta + (next_params self.now server cost).delta ≤ self.now.most) }
+        ensures carried { OnOk result ((next_params self.now server cost).delta ≤ max_count) }
         ensures counted { self.now.completions.delta ≤ self.now.most }
         ensures no_server { IsErrOf result TrackFault.NoServer ↔ (length self.now.servers ≤ server.0) }
-        ensures full { IsErrOf result TrackFault.TrackFull ↔ IsFullAt self.now server }
+        ensures full { IsErrOf result TrackFault.TrackFull ↔ IsFullAt self.now server cost }
 
         // The same in words of each list that the tracker represents.
         ensures full_by_list { (events : List TrackerEvent) → RepresentsEvents self.now events
             → (IsErrOf result TrackFault.TrackFull ↔ ((server.0 < length self.now.servers)
-            × IsStampFull self.now.counting self.now.most server events)) }
+            × IsStampFull self.now.counting self.now.most server cost events)) }
     {
         let index = server.0 as usize;
         if index >= self.servers.len() {
@@ -126,62 +127,62 @@ impl ServiceTracker {
         let counted = counts.counted(self.counting, self.completions);
         let next = counted
             .minus(counts.mark)
-            .plus(Counts::own_share(self.counting));
+            .plus(Counts::own_share(self.counting, cost));
         if is_too_much(self.counting, self.most, counts.sent.delta, next.delta) {
             return Err(TrackFault::TrackFull);
         }
         Ok(())
     }
 
-    /// Stamps a request to a server: refused as `can_stamp` says.
-    pub fn get_req_params(&mut self, server: ServerId) -> Result<ReqParams, TrackFault>
-        ensures params { IfOk result (λ params. params ≡ next_params self.old server) }
-        ensures after { OnOk result (self.new ≡ after_stamp server self.old) }
+    /// Stamps a request of this cost to a server: refused as `can_stamp` says.
+    pub fn get_req_params(&mut self, server: ServerId, cost: Cost) -> Result<ReqParams, TrackFault>
+        ensures params { IfOk result (λ params. params ≡ next_params self.old server cost) }
+        ensures after { OnOk result (self.new ≡ after_stamp server cost self.old) }
 
         // Of each list that the tracker represents, it takes the numbers to those of the list with this stamp, which
         // carries what the list demands.
         ensures represents { IfOk result (λ params. (events : List TrackerEvent) → RepresentsEvents self.old events
-            → (params ≡ demanded self.old.counting server events) × RepresentsEvents self.new (events ++ TrackerEvent.Stamp server params ∷ [])) }
+            → (params ≡ demanded self.old.counting server cost events) × RepresentsEvents self.new (events ++ TrackerEvent.Stamp server params ∷ [])) }
 
         ensures no_server { IsErrOf result TrackFault.NoServer ↔ (length self.old.servers ≤ server.0) }
-        ensures full { IsErrOf result TrackFault.TrackFull ↔ IsFullAt self.old server }
+        ensures full { IsErrOf result TrackFault.TrackFull ↔ IsFullAt self.old server cost }
         ensures full_by_list { (events : List TrackerEvent) → RepresentsEvents self.old events
             → (IsErrOf result TrackFault.TrackFull ↔ ((server.0 < length self.old.servers)
-            × IsStampFull self.old.counting self.old.most server events)) }
+            × IsStampFull self.old.counting self.old.most server cost events)) }
         ensures err { OnErr result (self.new ≡ self.old) }
         ensures kept { Keeps self.old self.new }
     {
-        self.can_stamp(server)?;
-        Ok(self.stamp_checked(server))
+        self.can_stamp(server, cost)?;
+        Ok(self.stamp_checked(server, cost))
     }
 
     /// Stamps a request to a server if `can_stamp` returns Ok: it needs no further test. For a caller that has to do more
     /// between the test and the stamp; otherwise `get_req_params` does both.
-    pub fn stamp_checked(&mut self, server: ServerId) -> ReqParams
+    pub fn stamp_checked(&mut self, server: ServerId, cost: Cost) -> ReqParams
         requires within { server.0 < length self.old.servers }
-        requires not_full { IsFullAt self.old server → ⊥ }
-        ensures params { result ≡ next_params self.old server }
-        ensures after { self.new ≡ after_stamp server self.old }
+        requires not_full { IsFullAt self.old server cost → ⊥ }
+        ensures params { result ≡ next_params self.old server cost }
+        ensures after { self.new ≡ after_stamp server cost self.old }
 
         // Of each list that the tracker represents, it takes the numbers to those of the list with this stamp, which
         // carries what the list demands.
         ensures represents { (events : List TrackerEvent) → RepresentsEvents self.old events
-            → (result ≡ demanded self.old.counting server events) × RepresentsEvents self.new (events ++ TrackerEvent.Stamp server result ∷ []) }
+            → (result ≡ demanded self.old.counting server cost events) × RepresentsEvents self.new (events ++ TrackerEvent.Stamp server result ∷ []) }
 
         ensures kept { Keeps self.old self.new }
     {
         let index = server.0 as usize;
         let counts = self.servers[index];
         let counted = counts.counted(self.counting, self.completions);
-        let params = counted
+        let next = counted
             .minus(counts.mark)
-            .plus(Counts::own_share(self.counting));
+            .plus(Counts::own_share(self.counting, cost));
         self.servers[index] = ServerCounts {
-            sent: counts.sent.plus(params),
+            sent: counts.sent.plus(next),
             mark: counted,
             ..counts
         };
-        ReqParams::new(params.delta as u32, params.rho as u32).unwrap()
+        next.stamp(cost)
     }
 
     /// Skips what is pending at a server: the next stamp to it counts only later completions. It sends nothing. If a stamp
@@ -213,67 +214,72 @@ impl ServiceTracker {
         Ok(())
     }
 
-    /// Whether a response of a server would be refused, and why: `NoServer`, then `TrackFull` if the completions are
-    /// `most`. It changes nothing.
-    pub fn can_respond(&self, server: ServerId) -> Result<(), TrackFault>
-        ensures fewer { OnOk result (self.now.completions.delta < self.now.most) }
+    /// Whether a response of this cost would be refused, and why: `NoServer`, then `TrackFull` if it would take the completions
+    /// past `most`. It changes nothing.
+    pub fn can_respond(&self, server: ServerId, cost: Cost) -> Result<(), TrackFault>
+        ensures fewer { OnOk result (self.now.completions.delta + cost ≤ self.now.most) }
         ensures no_server { IsErrOf result TrackFault.NoServer ↔ (length self.now.servers ≤ server.0) }
         ensures full { IsErrOf result TrackFault.TrackFull
-            ↔ ((server.0 < length self.now.servers) × (self.now.completions.delta ≡ self.now.most)) }
+            ↔ IsCompleteAt self.now server cost }
 
         // The same in words of each list that the tracker represents.
         ensures full_by_list { (events : List TrackerEvent) → RepresentsEvents self.now events
-            → (IsErrOf result TrackFault.TrackFull ↔ ((server.0 < length self.now.servers) × IsComplete self.now.most events)) }
+            → (IsErrOf result TrackFault.TrackFull ↔ ((server.0 < length self.now.servers) × IsResponseFull self.now.most cost events)) }
     {
         if server.0 as usize >= self.servers.len() {
             return Err(TrackFault::NoServer);
         }
-        if self.completions.delta == self.most {
+        if self.completions.delta + u64::from(cost.units()) > self.most {
             return Err(TrackFault::TrackFull);
         }
         Ok(())
     }
 
-    /// Counts a completion: a server completed a request that it granted in a phase. Refused as `can_respond` says.
-    pub fn track_resp(&mut self, server: ServerId, phase: PhaseType) -> Result<(), TrackFault>
-        ensures after { OnOk result (self.new ≡ after_response server phase self.old) }
+    /// Counts a completion: a server completed a request of this cost that it granted in a phase. Refused as `can_respond` says.
+    pub fn track_resp(
+        &mut self,
+        server: ServerId,
+        phase: PhaseType,
+        cost: Cost,
+    ) -> Result<(), TrackFault>
+        ensures after { OnOk result (self.new ≡ after_response server phase cost self.old) }
 
         // Of each list that the tracker represents, it takes the numbers to those of the list with this response.
         ensures represents { OnOk result ((events : List TrackerEvent) → RepresentsEvents self.old events
-            → RepresentsEvents self.new (events ++ TrackerEvent.Response server phase ∷ [])) }
+            → RepresentsEvents self.new (events ++ TrackerEvent.Response server phase cost ∷ [])) }
 
         ensures no_server { IsErrOf result TrackFault.NoServer ↔ (length self.old.servers ≤ server.0) }
         ensures full { IsErrOf result TrackFault.TrackFull
-            ↔ ((server.0 < length self.old.servers) × (self.old.completions.delta ≡ self.old.most)) }
+            ↔ IsCompleteAt self.old server cost }
         ensures full_by_list { (events : List TrackerEvent) → RepresentsEvents self.old events
-            → (IsErrOf result TrackFault.TrackFull ↔ ((server.0 < length self.old.servers) × IsComplete self.old.most events)) }
+            → (IsErrOf result TrackFault.TrackFull ↔ ((server.0 < length self.old.servers) × IsResponseFull self.old.most cost events)) }
         ensures err { OnErr result (self.new ≡ self.old) }
         ensures kept { Keeps self.old self.new }
     {
-        self.can_respond(server)?;
-        self.track_checked(server, phase);
+        self.can_respond(server, cost)?;
+        self.track_checked(server, phase, cost);
         Ok(())
     }
 
     /// Counts a completion if `can_respond` returns Ok: it needs no further test. For a caller that has to do more
     /// between the test and the count; otherwise `track_resp` does both.
-    pub fn track_checked(&mut self, server: ServerId, phase: PhaseType)
+    pub fn track_checked(&mut self, server: ServerId, phase: PhaseType, cost: Cost)
         requires within { server.0 < length self.old.servers }
-        requires not_full { self.old.completions.delta ≡ self.old.most → ⊥ }
-        ensures after { self.new ≡ after_response server phase self.old }
+        requires not_full { self.old.completions.delta + cost ≤ self.old.most }
+        ensures after { self.new ≡ after_response server phase cost self.old }
 
         // Of each list that the tracker represents, it takes the numbers to those of the list with this response.
         ensures represents { (events : List TrackerEvent) → RepresentsEvents self.old events
-            → RepresentsEvents self.new (events ++ TrackerEvent.Response server phase ∷ []) }
+            → RepresentsEvents self.new (events ++ TrackerEvent.Response server phase cost ∷ []) }
 
         ensures kept { Keeps self.old self.new }
     {
-        let one = Counts::one(phase);
-        self.completions = self.completions.plus(one);
+        let response = Counts::of_response(phase, cost);
+        self.completions = self.completions.plus(response);
         let index = server.0 as usize;
         let counts = self.servers[index];
         self.servers[index] = ServerCounts {
-            own: counts.own.plus(one),
+            own: counts.own.plus(response),
             ..counts
         };
     }

@@ -1,6 +1,6 @@
-use Rattle.std.proofs.Common.{◌<◌, ◌≤◌, length, sym, ap, ◌∙◌, subst}
+use Rattle.std.proofs.Common.{◌<◌, ◌≤◌, length, sym, ap, arith, ◌∙◌, subst}
 use Rattle.dmc_tracker.specs.declared.server.ServerCounts.{ServerCounts}
-use Rattle.dmc_tracker.specs.Server.{IsPart, minus}
+use Rattle.dmc_tracker.specs.Parts.{IsPart, minus}
 use Rattle.dmc_tracker.proofs.Steps.{refused, refused_otherwise, no_server_is_not_full, not_past, past_all, within_all, own_part, mark_part, params_fit}
 use Rattle.dmc_tracker.proofs.tracker.ServiceTracker.can_stamp.Goals as goal
 
@@ -37,8 +37,8 @@ minus-requires-clause-rho c =
 
 pub plus-next-requires-clause-delta : goal.plus-next-requires-clause-delta
 plus-next-requires-clause-delta c =
-    (params_fit c.self.invariant c.self.view_is (within_all c.self.invariant c.self.view_is (c.len.ensures ∙ c.self.inside.servers.ok.0) c.if-index-len.false) c.index.ensures c.counted-counted.ensures (c.minus.ensures ∙ ap (λ (x : ServerCounts). minus c.counted-counted.result x.mark) c.counts.view_is) c.own_share.ensures).0
+    (params_fit c.self.invariant c.self.view_is (within_all c.self.invariant c.self.view_is (c.len.ensures ∙ c.self.inside.servers.ok.0) c.if-index-len.false) c.index.ensures c.counted-counted.ensures (c.minus.ensures ∙ ap (λ (x : ServerCounts). minus c.counted-counted.result x.mark) c.counts.view_is) c.own_share.ensures (omega arith)).0
 
 pub plus-next-requires-clause-rho : goal.plus-next-requires-clause-rho
 plus-next-requires-clause-rho c =
-    (params_fit c.self.invariant c.self.view_is (within_all c.self.invariant c.self.view_is (c.len.ensures ∙ c.self.inside.servers.ok.0) c.if-index-len.false) c.index.ensures c.counted-counted.ensures (c.minus.ensures ∙ ap (λ (x : ServerCounts). minus c.counted-counted.result x.mark) c.counts.view_is) c.own_share.ensures).1
+    (params_fit c.self.invariant c.self.view_is (within_all c.self.invariant c.self.view_is (c.len.ensures ∙ c.self.inside.servers.ok.0) c.if-index-len.false) c.index.ensures c.counted-counted.ensures (c.minus.ensures ∙ ap (λ (x : ServerCounts). minus c.counted-counted.result x.mark) c.counts.view_is) c.own_share.ensures (omega arith)).1

@@ -12,23 +12,23 @@ index_mut-requires c =
 
 pub plus-requires-clause-delta : goal.plus-requires-clause-delta
 plus-requires-clause-delta c =
-    (own_fits c.self.invariant c.self.view_is c.requires.within c.index-counts.ensures c.args.phase c.one-one.ensures c.requires.not_full).0
+    (own_fits c.self.invariant c.self.view_is c.requires.within c.index-counts.ensures c.args.phase c.args.cost c.of_response-response.ensures c.requires.not_full).0
 
 pub plus-requires-clause-rho : goal.plus-requires-clause-rho
 plus-requires-clause-rho c =
-    (own_fits c.self.invariant c.self.view_is c.requires.within c.index-counts.ensures c.args.phase c.one-one.ensures c.requires.not_full).1
+    (own_fits c.self.invariant c.self.view_is c.requires.within c.index-counts.ensures c.args.phase c.args.cost c.of_response-response.ensures c.requires.not_full).1
 
 pub invariant_of-self : goal.invariant_of-self
 invariant_of-self c =
-    response_kept c.self.invariant c.self.view_is c.requires.within c.index-counts.ensures c.args.phase c.one-one.ensures c.requires.not_full c.plus-self-inside.ensures c.plus.ensures
+    response_kept c.self.invariant c.self.view_is c.requires.within c.index-counts.ensures c.args.phase c.args.cost c.of_response-response.ensures c.requires.not_full c.plus-self-inside.ensures c.plus.ensures
 
 pub returns-clause-after : goal.returns-clause-after
 returns-clause-after c =
-    response_seen c.self.invariant c.self.view_is c.requires.within c.index-counts.ensures c.args.phase c.one-one.ensures c.requires.not_full c.plus-self-inside.ensures c.plus.ensures
+    response_seen c.self.invariant c.self.view_is c.requires.within c.index-counts.ensures c.args.phase c.args.cost c.of_response-response.ensures c.requires.not_full c.plus-self-inside.ensures c.plus.ensures
 
 pub returns-clause-represents : goal.returns-clause-represents
 returns-clause-represents c =
-    represents_after_response c.args.server c.args.phase (returns-clause-after c)
+    represents_after_response c.args.server c.args.phase c.args.cost (returns-clause-after c)
 
 pub returns-clause-kept : goal.returns-clause-kept
 returns-clause-kept c =

@@ -1,0 +1,13 @@
+use Rattle.dmc_tag.proofs.ForCallers.{tag_order}
+use Rattle.dmc_shards.proofs.ForCallers.{reservation_across_shards, reservation_across_shards_with_cancels}
+use Rattle.dmc_shards.proofs.laws.reservations_hold_across_shards.Goals as goal
+
+pub returns-clause-with_cancels : goal.returns-clause-with_cancels
+returns-clause-with_cancels g c =
+    let order = tag_order g.T.Ord.cmp g.T.Tag.ops.compare g.met.T.Ord.total g.met.T.Tag.compares in
+    reservation_across_shards_with_cancels g.T.Tag.ops g.T.Tag.fraction g.T.Tag.is_value g.met.T.Tag.exact order
+
+pub returns-clause-never_cancelled : goal.returns-clause-never_cancelled
+returns-clause-never_cancelled g c =
+    let order = tag_order g.T.Ord.cmp g.T.Tag.ops.compare g.met.T.Ord.total g.met.T.Tag.compares in
+    reservation_across_shards g.T.Tag.ops g.T.Tag.fraction g.T.Tag.is_value g.met.T.Tag.exact order

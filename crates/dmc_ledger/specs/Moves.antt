@@ -4,7 +4,7 @@ use Rattle.dmc_types.specs.Values.{Params}
 use Rattle.dmc_types.specs.declared.config.PhaseType.{PhaseType}
 use Rattle.dmc_types.specs.declared.config.PhaseType.TheVariants.{Reservation, Priority}
 use Rattle.dmc_ledger.specs.Accounts.{Account, Holding, new_till}
-use Rattle.dmc_ledger.specs.Bundles.{StampHoldings, GrantHoldings, StampAccounts, GrantAccounts}
+use Rattle.dmc_ledger.specs.Bundles.{StampHoldings, PhaseHoldings, GrantHoldings, StampAccounts, PhaseAccounts, GrantAccounts}
 
 -- a till with an amount more, and with an amount less
 abbrev pub with_more : ℕ → Holding → Holding
@@ -84,15 +84,32 @@ books_after_gather tills books = record {
   rho = after_gather tills.rho books.rho;
 }
 
--- the grants of a phase: their till, their book, and one unit more
-abbrev pub till_in : PhaseType → GrantHoldings → Holding
-till_in Reservation tills = tills.reservation
-till_in Priority tills = tills.priority
+-- the grants of a phase: their tills and their books
+abbrev pub tills_in : PhaseType → GrantHoldings → PhaseHoldings
+tills_in Reservation tills = tills.reservation
+tills_in Priority tills = tills.priority
 
-abbrev pub book_in : PhaseType → GrantAccounts → Account
-book_in Reservation books = books.reservation
-book_in Priority books = books.priority
+abbrev pub books_in : PhaseType → GrantAccounts → PhaseAccounts
+books_in Reservation books = books.reservation
+books_in Priority books = books.priority
 
-abbrev pub tills_after_response : PhaseType → GrantHoldings → GrantHoldings
-tills_after_response Reservation tills = record tills { reservation = with_more 1 tills.reservation }
-tills_after_response Priority tills = record tills { priority = with_more 1 tills.priority }
+-- one grant of a cost more, in the tills of a phase, and one less
+abbrev pub with_grant : ℕ → PhaseHoldings → PhaseHoldings
+with_grant cost tills = record { grants = with_more 1 tills.grants; cost = with_more cost tills.cost }
+
+abbrev pub without_grant : ℕ → PhaseHoldings → PhaseHoldings
+without_grant cost tills = record { grants = with_less 1 tills.grants; cost = with_less cost tills.cost }
+
+abbrev pub tills_after_response : PhaseType → ℕ → GrantHoldings → GrantHoldings
+tills_after_response Reservation cost tills = record tills { reservation = with_grant cost tills.reservation }
+tills_after_response Priority cost tills = record tills { priority = with_grant cost tills.priority }
+
+-- the tills are of these books
+pub record ArePhaseOf (tills : PhaseHoldings) (books : PhaseAccounts) : Type 0 where
+  pub grants : tills.grants.number ≡ books.grants.number
+  pub cost : tills.cost.number ≡ books.cost.number
+
+-- tills of the same books
+pub record AreSamePhase (tills other : PhaseHoldings) : Type 0 where
+  pub grants : tills.grants.number ≡ other.grants.number
+  pub cost : tills.cost.number ≡ other.cost.number

@@ -2,10 +2,10 @@
 //! has taken in.
 ghost use Rattle.std.specs.Prelude.{◌≡◌, ◌+◌, ◌-◌, ◌<◌, ◌↔◌, IfOk, OnOk, OnErr, IsErr};
 ghost use Rattle.dmc_ledger.specs.Accounts.{after_closing, new_book, new_till};
-ghost use Rattle.dmc_ledger.specs.Bundles.{IsOnlyTill, IsPair, books_per_pair, client_side, server_side, stamp_accounts, grant_accounts, new_client_side, new_server_side, closed_stamps, closed_grants};
+ghost use Rattle.dmc_ledger.specs.Bundles.{IsOnlyTill, AreOnlyTills, IsPair, books_per_pair, phase_accounts, phase_holdings, new_phase_books, new_phase_tills, closed_phase, client_side, server_side, stamp_accounts, grant_accounts, new_client_side, new_server_side, closed_stamps, closed_grants};
 
 use crate::book::Book;
-use crate::bundle::{GrantBooks, GrantTills, StampBooks, StampTills};
+use crate::bundle::{GrantBooks, GrantTills, PhaseBooks, PhaseTills, StampBooks, StampTills};
 use crate::full::Full;
 use crate::growing::BlankList;
 use crate::mint::Mint;
@@ -33,8 +33,8 @@ pub struct ServerDesk<S: Setup> {
     pub list: Option<BlankList<S>>,
 }
 
-/// How many books the desks of a client and a server have: of stamps, deltas, rhos, and the grants of each phase.
-pub const BOOKS_PER_PAIR: u64 = 5;
+/// How many books the desks of a client and a server have: of stamps, deltas, rhos, and the grants of each phase and their costs.
+pub const BOOKS_PER_PAIR: u64 = 7;
 
 /// The desks of a client at a server, with new books. Each book has one open till, at the other desk. It is refused `Full` if
 /// fewer than `BOOKS_PER_PAIR` books are left.
@@ -55,8 +55,8 @@ pub fn open_pair<S: Setup>(
     let ((stamps, list), stamp_till) = open_first(mint);
     let (delta, delta_till) = open_one(mint);
     let (rho, rho_till) = open_one(mint);
-    let (reservation, reservation_till) = open_one(mint);
-    let (priority, priority_till) = open_one(mint);
+    let (reservation, reservation_tills) = open_phase(mint);
+    let (priority, priority_tills) = open_phase(mint);
     let client_desk = ClientDesk {
         client,
         server,
@@ -75,8 +75,8 @@ pub fn open_pair<S: Setup>(
         server,
         books: StampBooks { stamps, delta, rho },
         held: GrantTills {
-            reservation: reservation_till,
-            priority: priority_till,
+            reservation: reservation_tills,
+            priority: priority_tills,
         },
         list: Some(list),
     };
@@ -109,6 +109,23 @@ fn open_one<S: Setup>(mint: &mut Mint<S>) -> (Book<S>, Till<S>)
 {
     let ((book, _), till) = open_first(mint);
     (book, till)
+}
+
+/// New books of a phase, and their first tills.
+fn open_phase<S: Setup>(mint: &mut Mint<S>) -> (PhaseBooks<S>, PhaseTills<S>)
+    requires { 1 < mint.old.left }
+    ensures books { phase_accounts result.0 ≡ new_phase_books mint.old.opened }
+    ensures tills { phase_holdings result.1 ≡ new_phase_tills mint.old.opened }
+    ensures mint { mint.new ≡ record { opened = mint.old.opened + 2; left = mint.old.left - 2 } }
+{
+    let (grants, grants_till) = open_one(mint);
+    let (cost, cost_till) = open_one(mint);
+    let books = PhaseBooks { grants, cost };
+    let tills = PhaseTills {
+        grants: grants_till,
+        cost: cost_till,
+    };
+    (books, tills)
 }
 
 /// Gathers both held bundles of a pair, so that no till of it is open. Each book's total is then what was gathered.
@@ -159,8 +176,8 @@ fn gather_stamps<S: Setup>(books: StampBooks<S>, tills: StampTills<S>) -> StampB
 }
 
 fn gather_grants<S: Setup>(books: GrantBooks<S>, tills: GrantTills<S>) -> GrantBooks<S>
-    requires reservation { IsOnlyTill books.reservation tills.reservation }
-    requires priority { IsOnlyTill books.priority tills.priority }
+    requires reservation { AreOnlyTills (phase_accounts books.reservation) (phase_holdings tills.reservation) }
+    requires priority { AreOnlyTills (phase_accounts books.priority) (phase_holdings tills.priority) }
     ensures { grant_accounts result ≡ closed_grants (grant_accounts books) }
 {
     let GrantBooks {
@@ -168,12 +185,27 @@ fn gather_grants<S: Setup>(books: GrantBooks<S>, tills: GrantTills<S>) -> GrantB
         priority,
     } = books;
     let GrantTills {
-        reservation: reservation_till,
-        priority: priority_till,
+        reservation: reservation_tills,
+        priority: priority_tills,
     } = tills;
     GrantBooks {
-        reservation: gather_last(reservation, reservation_till),
-        priority: gather_last(priority, priority_till),
+        reservation: gather_phase(reservation, reservation_tills),
+        priority: gather_phase(priority, priority_tills),
+    }
+}
+
+fn gather_phase<S: Setup>(books: PhaseBooks<S>, tills: PhaseTills<S>) -> PhaseBooks<S>
+    requires { AreOnlyTills (phase_accounts books) (phase_holdings tills) }
+    ensures { phase_accounts result ≡ closed_phase (phase_accounts books) }
+{
+    let PhaseBooks { grants, cost } = books;
+    let PhaseTills {
+        grants: grants_till,
+        cost: cost_till,
+    } = tills;
+    PhaseBooks {
+        grants: gather_last(grants, grants_till),
+        cost: gather_last(cost, cost_till),
     }
 }
 

@@ -12,3 +12,4 @@ pub mod setup;
 pub mod stamp;
 pub mod till;
 mod token;
+pub mod unit;

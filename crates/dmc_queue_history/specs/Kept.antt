@@ -1,9 +1,11 @@
 -- How a queue's history keeps its events: each in the list of those of its form, and the places of all in order. Contracts
 -- of the history cite the list of events alone.
-use Rattle.std.specs.Prelude.{◌≡◌, ℕ, ◌+◌, ◌/◌, ◌%◌, ◌≤◌, ◌==◌, true, min, List, length, Option, Some, None, is_some, option_map, option_to_list, flat_map, slice_get, if◌then◌else◌}
+use Rattle.std.specs.Prelude.{◌≡◌, ℕ, ◌+◌, ◌/◌, ◌%◌, ◌≤◌, ◌==◌, Bool, true, min, List, length, Option, Some, None, is_some, option_map, option_to_list, flat_map, slice_get, if◌then◌else◌}
 use Rattle.std.specs.List.{AllByRecursion}
 use Rattle.dmc_types.specs.Limits.{max_events}
 use Rattle.dmc_types.specs.declared.command.Command.TheVariants as commands
+use Rattle.dmc_types.specs.declared.config.PhaseType.{PhaseType}
+use Rattle.dmc_types.specs.declared.config.PhaseType.TheVariants as phases
 use Rattle.dmc_tag.specs.declared.event.Event.{Event}
 use Rattle.dmc_tag.specs.declared.reply.Reply.TheVariants as replies
 use Rattle.dmc_tag.specs.Tag.{Tagging}
@@ -13,6 +15,19 @@ use Rattle.dmc_queue_history.specs.declared.kept.QueuedByWeight.{QueuedByWeight}
 use Rattle.dmc_queue_history.specs.declared.kept.Queued.{Queued}
 use Rattle.dmc_queue_history.specs.declared.kept.Granted.{Granted}
 use Rattle.dmc_queue_history.specs.declared.lists.Lists.{Lists}
+
+-- ---- what the mark of a moment says
+
+-- of a request that was queued: whether it has a tag of its reservation
+abbrev pub is_reserved : ℕ → Bool
+is_reserved mark = mark == 1
+
+-- of one that was granted: 0 if by its reservation, 1 if by its weight, 2 if so and beyond its limit
+abbrev pub phase_of : ℕ → PhaseType
+phase_of mark = if mark == 0 then phases.Reservation else phases.Priority
+
+abbrev pub is_beyond : ℕ → Bool
+is_beyond mark = mark == 2
 
 -- ---- the events
 
@@ -35,15 +50,15 @@ event_of_queued_by_weight ops q = record {
 abbrev pub event_of_queued : {T : Type 0} → Queued T → Event T
 event_of_queued q = record {
   worker = q.worker;
-  command = commands.Add q.client q.token q.params q.at;
-  reply = replies.Tagged (record { r = if q.reserved then Some q.r else None; l = q.l; p = q.p });
+  command = commands.Add q.client q.token q.params q.marked.at;
+  reply = replies.Tagged (record { r = if is_reserved q.marked.mark then Some q.r else None; l = q.l; p = q.p });
 }
 
 abbrev pub event_of_granted : {T : Type 0} → Granted → Event T
 event_of_granted g = record {
   worker = g.worker;
-  command = commands.Pull g.at;
-  reply = replies.Granted g.client g.token g.phase g.beyond;
+  command = commands.Pull g.marked.at;
+  reply = replies.Granted g.client g.token (phase_of g.marked.mark) (is_beyond g.marked.mark) g.cost;
 }
 
 -- ---- places: the index in a list times the number of lists, plus the number of the list

@@ -6,7 +6,7 @@ ghost use Rattle.dmc_types.specs.declared.command.Command.TheVariants as command
 ghost use Rattle.dmc_tag.specs.declared.reply.Reply.TheVariants as replies;
 ghost use Rattle.dmc_queue_history.specs.Kept.{event_of_added, event_of_granted};
 
-use crate::kept::{Granted, Request, asked_to_add, asked_to_pull};
+use crate::kept::{Granted, Request, asked_to_add, marked_pull};
 use crate::lists::Lists;
 use dmc_history::{BLOCK, History, LimitFault, ReserveFault};
 use dmc_tag::event::Event;
@@ -14,6 +14,7 @@ use dmc_tag::reply::{Reply, Tags};
 use dmc_tag::tag::Tag;
 use dmc_types::command::Command;
 use dmc_types::config::PhaseType;
+use dmc_types::cost::Cost;
 use dmc_types::ids::{ClientId, Token, WorkerId};
 use dmc_types::moment::Moment;
 use dmc_types::params::ReqParams;
@@ -33,7 +34,7 @@ pub struct AddedRequest<T> {
 
 /// A list of at most `most` events (1 to 2^30), oldest first: a `History<Event<T>>` in less memory. With tick tags it takes 28
 /// bytes for a grant, and 84 for a request that was queued, or 52 if the client has no reservation and the limit's tag is the
-/// moment (as it is within a limit, or without one), in place of 112.
+/// moment (as it is within a limit, or without one), in place of 112, whatever the costs.
 ///
 /// An event goes in by two calls: `reserve_one`, which may need memory, and a push, which needs none. Each push uses up one
 /// reserved place. Contracts see the events, `most`, and how many places are reserved.
@@ -208,7 +209,8 @@ impl<T: Tag> EventHistory<T> {
                 token,
                 phase,
                 beyond,
-            } => self.push_grant(worker, command, client, token, phase, beyond),
+                cost,
+            } => self.push_grant(worker, command, client, token, phase, beyond, cost),
             _ => self.push_other(Event {
                 worker,
                 command,
@@ -260,21 +262,21 @@ impl<T: Tag> EventHistory<T> {
         token: Token,
         phase: PhaseType,
         beyond: bool,
+        cost: Cost,
     )
         requires { 0 < self.old.room }
         ensures events { self.new.events ≡ self.old.events
-            ++ record { worker = worker; command = command; reply = replies.Granted client token phase beyond } ∷ [] }
+            ++ record { worker = worker; command = command; reply = replies.Granted client token phase beyond cost } ∷ [] }
         ensures most { self.new.most ≡ self.old.most }
         ensures used { self.new.room + 1 ≡ self.old.room }
     {
-        match asked_to_pull(&command) {
-            Some(at) => self.push_granted(Granted {
-                at,
+        match marked_pull(&command, phase, beyond) {
+            Some(marked) => self.push_granted(Granted {
+                marked,
                 worker,
                 client,
                 token,
-                phase,
-                beyond,
+                cost,
             }),
             None => self.push_other(Event {
                 worker,
@@ -284,6 +286,7 @@ impl<T: Tag> EventHistory<T> {
                     token,
                     phase,
                     beyond,
+                    cost,
                 },
             }),
         }

@@ -6,6 +6,7 @@ mod kept;
 pub mod laws;
 pub mod list;
 mod lists;
+mod marked;
 mod place;
 pub mod segment;
 pub mod segmented;

@@ -9,6 +9,7 @@ use crate::kept::{
     Granted, Queued, QueuedByWeight, event_of_granted, event_of_queued, event_of_queued_by_weight,
     is_of_moment,
 };
+use crate::marked::MarkedMoment;
 use crate::place::{BY_WEIGHT, GRANTED, OTHERS, QUEUED, index_of, list_of, place_in};
 use dmc_history::{History, ReserveFault};
 use dmc_tag::event::Event;
@@ -97,12 +98,11 @@ impl<T: Tag> Lists<T> {
                 r: r.unwrap_or(l),
                 l,
                 p,
-                at,
+                marked: MarkedMoment::new(at, u8::from(r.is_some())),
                 worker,
                 client,
                 token,
                 params,
-                reserved: r.is_some(),
             }),
         }
     }

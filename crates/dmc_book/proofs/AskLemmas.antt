@@ -1,12 +1,12 @@
 -- What a command that is handed to the queue gives.
 use Rattle.std.proofs.Common.{◌≡◌, ℕ, Bool, true, true≢false, List, ap, ◌∙◌, refl, sym, subst, Some, Result, Ok, Err}
-use Rattle.std.specs.Prelude.{⊤, Option, None, is_some}
+use Rattle.std.specs.Prelude.{⊤, Option, None, is_some, option_map}
 use Rattle.std.specs.Cmp.{IsTotalOrder}
 use Rattle.dmc_types.specs.declared.ids.ClientId.{ClientId}
 use Rattle.dmc_types.specs.declared.config.PhaseType.{PhaseType}
 use Rattle.dmc_types.specs.declared.refusal.Refusal.{Refusal}
 use Rattle.dmc_types.specs.declared.command.Command.{Command}
-use Rattle.dmc_types.specs.declared.command.Command.TheVariants.{Register, Update, Add, Pull, Remove, Clean}
+use Rattle.dmc_types.specs.declared.command.Command.TheVariants.{Register, Update, Add, Pull, Remove, Cancel, Clean}
 use Rattle.dmc_tag.specs.Tag.{Tagging, Fraction, IsExact}
 use Rattle.dmc_tag.specs.State.{State, effective}
 use Rattle.dmc_tag.specs.Laws.{Pulls}
@@ -59,7 +59,7 @@ is_range : {T : Type 0} (ops : Tagging T) (t : ℕ) (old new : State T) (reply :
 is_range ops t old new Registered h refusal e = absurd h
 is_range ops t old new Updated h refusal e = absurd h
 is_range ops t old new (Tagged tags) h refusal e = absurd h
-is_range ops t old new (Granted client token phase beyond) h refusal e = absurd cc
+is_range ops t old new (Granted client token phase beyond cost) h refusal e = absurd cc
 is_range ops t old new (Later m) h refusal e = absurd cc
 is_range ops t old new Nothing h refusal e = absurd cc
 is_range ops t old new (Removed count) h refusal e = absurd h
@@ -89,6 +89,7 @@ module _ {T : Type 0} (ops : Tagging T) (behind : Type 0) (allows : ClientId →
   IsNoPull (Add client token params at) = ⊤
   IsNoPull (Pull at) = ⊥
   IsNoPull (Remove client) = ⊤
+  IsNoPull (Cancel client token counting) = ⊤
   IsNoPull (Clean at) = ⊤
 
   passes : (command : Command) → IsNoPull command → is_allowed allows ((step ops s command).1) ≡ true
@@ -97,6 +98,7 @@ module _ {T : Type 0} (ops : Tagging T) (behind : Type 0) (allows : ClientId →
   passes (Add client token params at) other = after_test (can_add ops s client params _) _ (λ x. refl)
   passes (Pull at) other = absurd other
   passes (Remove client) other = after_test (can_remove s client) _ (λ x. refl)
+  passes (Cancel client token counting) other = after_test (can_remove s client) _ (λ x. refl)
   passes (Clean at) other = refl
 
   pub no_pull : (new : State T) (command : Command) (reply : Reply T) → ((at : ℕ) → command ≡ Pull at → ⊥) → Steps ops s new command (Some reply) → Asks ops behind allows s new command (Ok reply)
@@ -105,6 +107,7 @@ module _ {T : Type 0} (ops : Tagging T) (behind : Type 0) (allows : ClientId →
   no_pull new (Add client token params at) reply other steps = (steps, ap (λ p. is_allowed allows p.1) steps ∙ passes (Add client token params at) tt, λ x. x)
   no_pull new (Pull at) reply other steps = absurd (other at refl)
   no_pull new (Remove client) reply other steps = (steps, ap (λ p. is_allowed allows p.1) steps ∙ passes (Remove client) tt, λ x. x)
+  no_pull new (Cancel client token counting) reply other steps = (steps, ap (λ p. is_allowed allows p.1) steps ∙ passes (Cancel client token counting) tt, λ x. x)
   no_pull new (Clean at) reply other steps = (steps, ap (λ p. is_allowed allows p.1) steps ∙ passes (Clean at) tt, λ x. x)
 
 -- ---- what a book keeps if nothing is answered
@@ -132,11 +135,11 @@ has_place : (phase : PhaseType) (desks : List ClientSide) (units : List GrantHol
 has_place phase desks units None there h = absurd (true≢false (sym h))
 has_place phase desks units (Some i) there h = refl
 
-pub taken_has_desk : {T : Type 0} (desks : List ClientSide) (names : List ClientId) (units : List GrantHoldings) (reply : Reply T) → is_allowed (takes desks names units) reply ≡ true → HasDesk desks (grant_in reply)
+pub taken_has_desk : {T : Type 0} (desks : List ClientSide) (names : List ClientId) (units : List GrantHoldings) (reply : Reply T) → is_allowed (takes desks names units) reply ≡ true → HasDesk desks (option_map (λ g. g.client) (grant_in reply))
 taken_has_desk desks names units Registered h = tt
 taken_has_desk desks names units Updated h = tt
 taken_has_desk desks names units (Tagged tags) h = tt
-taken_has_desk desks names units (Granted client token phase beyond) h = has_place phase desks units (desk_place client.0 desks) (place_of client.0 names) h
+taken_has_desk desks names units (Granted client token phase beyond cost) h = has_place phase desks units (desk_place client.0 desks) (place_of client.0 names) h
 taken_has_desk desks names units (Later m) h = tt
 taken_has_desk desks names units Nothing h = tt
 taken_has_desk desks names units (Removed count) h = tt

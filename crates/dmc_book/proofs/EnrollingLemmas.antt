@@ -1,10 +1,11 @@
 -- Accounts with a worker more are consistent.
 use Rattle.std.proofs.Common.{◌≡◌, ℕ, ◌+◌, ◌<◌, Bool, true, false, List, [], ◌∷◌, ◌++◌, map, length, length-append, refl, sym, ap, ◌∙◌, subst, arith, inl, ◌⊎◌}
-use Rattle.std.specs.Prelude.{◌==◌, ◌||◌, nat_lt, if◌then◌else◌, slice_index_or}
+use Rattle.std.specs.Prelude.{◌==◌, ◌||◌, nat_lt, if◌then◌else◌, option_map, slice_index_or}
 use Rattle.std.specs.List.{AllByRecursion, list_any}
 use Rattle.std.proofs.lemmas.Bool.{eqb-true, lt-ltb, or_parts}
 use Rattle.std.proofs.lemmas.List.{get_or-map, length-map}
 use Rattle.std.proofs.lemmas.List.Folds.{list_any-append}
+use Rattle.dmc_types.specs.Limits.{max_open_tills}
 use Rattle.dmc_types.specs.declared.ids.WorkerId.{WorkerId}
 use Rattle.dmc_tag.specs.declared.event.Event.{Event}
 use Rattle.dmc_lemmas.proofs.Lists.{all_as, all_next}
@@ -17,7 +18,7 @@ use Rattle.dmc_book.specs.Moves.{IsOpen}
 use Rattle.dmc_book.specs.Opening.{desk_with_tills, new_worker}
 use Rattle.dmc_book.specs.internal.Opening.{HaveRoom}
 use Rattle.dmc_book.specs.PerCount.{WorkerCounts}
-use Rattle.dmc_book.proofs.ExtendingLemmas.{apart_from, desk_opened, has_from, reached_at_most}
+use Rattle.dmc_book.proofs.ExtendingLemmas.{apart_from, desk_opened, has_from, phase_room, reached_at_most}
 use Rattle.dmc_book.proofs.JoiningLemmas.{nothing_counted}
 
 either_false : (b : Bool) → (b ≡ true → ⊥) → b ≡ false
@@ -41,7 +42,7 @@ module _ {T : Type 0} (ws : List WorkerSide) (w : ℕ) (unknown : IsSeated ws w 
   begins_all : (reach n : ℕ) → IsWorker es (new_worker reach n (record { 0 = w }))
   begins_all reach n = record {
     renewed = omega arith;
-    books = (begins (λ m. m.calls) refl n, begins (λ m. m.misses) refl (n + 1), begins (λ m. m.tokens) refl (n + 2), begins (λ m. m.grants) refl (n + 3), begins (λ m. m.granted) refl (n + 4));
+    books = (begins (λ m. m.calls) refl n, begins (λ m. m.misses) refl (n + 1), begins (λ m. m.tokens) refl (n + 2), begins (λ m. m.grants) refl (n + 3), begins (λ m. m.granted) refl (n + 4), begins (λ m. m.cost) refl (n + 5));
   }
 
 -- ---- a worker more
@@ -61,7 +62,8 @@ module _ {T : Type 0} (a : AccountsState T) (h : AreConsistent a) (few : length 
   room_for_one_more k within =
       let most = reached_at_most k a.workers in
       let was = h.desks k within in
-      record { reservation = omega (arith, few, most, was.reservation.open_tills); priority = omega (arith, few, most, was.priority.open_tills) }
+      let within : 1 + reaching k a.workers < max_open_tills = omega (arith, few, most) in
+      record { reservation = phase_room a.history (1 + reaching k a.workers) _ was.reservation within; priority = phase_room a.history (1 + reaching k a.workers) _ was.priority within }
 
   module _ (n : ℕ) (w : WorkerId) (unknown : IsSeated a.workers w.0 → ⊥) where
     abbrev seat : WorkerSide
@@ -83,10 +85,11 @@ module _ {T : Type 0} (a : AccountsState T) (h : AreConsistent a) (few : length 
       reach = all_next _ a.workers seat (all_as _ _ (λ v l. omega (arith, l, length-map a.desks (desk_with_tills 1))) a.workers h.reach) (omega (arith, length-map a.desks (desk_with_tills 1)));
       workers_apart = apart_more a.workers seat h.workers_apart (either_false (list_any (λ v. w.0 == v.worker) a.workers) unknown);
       clients_apart = apart_from 0 a.desks h.clients_apart;
-      granted = all_as _ _ (λ e. has_from 0 a.desks (grant_in e.reply)) a.history h.granted;
-      queued = all_as _ _ (λ e. has_from 0 a.desks (accepted e)) a.history h.queued;
+      granted = all_as _ _ (λ e. has_from 0 a.desks (option_map (λ g. g.client) (grant_in e.reply))) a.history h.granted;
+      queued = all_as _ _ (λ e. has_from 0 a.desks (option_map (λ s. s.0) (accepted e))) a.history h.queued;
       seated = all_as _ _ (λ e. still_seated e.worker.0) a.history h.seated;
       tokens_fit = all_next (λ v. IsOpen v → AreTokensFit a.first (length a.history) v.books) a.workers seat h.tokens_fit (λ still. record { tokens = omega (arith, h.within); granted = omega (arith, h.within) });
+      cost_fits = h.cost_fits;
       within = h.within;
       few = h.few;
       limit = h.limit;

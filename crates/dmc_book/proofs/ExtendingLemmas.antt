@@ -1,22 +1,24 @@
 -- Accounts where one pass has tills of each desk are consistent.
 use Rattle.std.proofs.Common.{◌≡◌, ℕ, zero, suc, ◌+◌, ◌<◌, ◌≤◌, Bool, false, List, [], ◌∷◌, map, length, refl, sym, ap, ◌∙◌, Option, Some, None, inl, inr, ◌⊎◌, arith, subst}
-use Rattle.std.specs.Prelude.{◌==◌, nat_lt, is_some, slice_index_or}
+use Rattle.std.specs.Prelude.{◌==◌, nat_lt, is_some, option_map, slice_index_or}
 use Rattle.std.specs.List.{AllByRecursion, position}
 use Rattle.std.proofs.lemmas.Bool.{cases_lt, le-ltb, lt-ltb}
 use Rattle.std.proofs.lemmas.List.{get_or-map, length-map, length-set}
+use Rattle.dmc_types.specs.Limits.{max_open_tills}
 use Rattle.dmc_types.specs.declared.ids.ClientId.{ClientId}
+use Rattle.dmc_types.specs.declared.config.PhaseType.{PhaseType}
 use Rattle.dmc_tag.specs.declared.event.Event.{Event}
 use Rattle.dmc_lemmas.proofs.Lists.{all_as, all_mapped, position_map}
-use Rattle.dmc_ledger.specs.Bundles.{ClientSide, client_side}
+use Rattle.dmc_ledger.specs.Bundles.{ClientSide, PhaseAccounts, client_side}
 use Rattle.dmc_ledger.specs.declared.desk.ClientDesk.{ClientDesk}
 use Rattle.dmc_book.specs.BookState.{AccountsState, WorkerSide, no_desk, no_worker}
-use Rattle.dmc_book.specs.Consistent.{AreClientsApart, AreConsistent, AreDesks, AreTokensFit, HasDesk, HasLeft, IsDesk, IsWorker, reaching}
+use Rattle.dmc_book.specs.Consistent.{AreClientsApart, AreConsistent, AreDesks, ArePhaseCounted, AreTokensFit, HasDesk, HasLeft, IsDesk, IsWorker, reaching}
 use Rattle.dmc_book.specs.Counts.{accepted, grant_in, one_if}
 use Rattle.dmc_book.specs.Joining.{desks_from, id_of, reach_at, with_reach}
 use Rattle.dmc_book.specs.internal.Joining.{accounts_extended}
 use Rattle.dmc_book.specs.Moves.{IsOpen}
-use Rattle.dmc_book.specs.Opening.{AreApart, desk_with_tills}
-use Rattle.dmc_book.specs.internal.Opening.{HaveRoom}
+use Rattle.dmc_book.specs.Opening.{AreApart, desk_with_tills, phase_with_tills}
+use Rattle.dmc_book.specs.internal.Opening.{HasPhaseRoom, HaveRoom}
 use Rattle.dmc_book.proofs.Counting.{one_at_most}
 use Rattle.dmc_book.proofs.OpeningLemmas.{names_by_sides}
 use Rattle.dmc_book.proofs.RenewingLemmas.{all_set, all_there, apart_set, seated_set, worker_there}
@@ -68,16 +70,16 @@ apart_by_ids (d ∷ ds) h = (all_named d.client ds h.0, apart_by_ids ds h.1)
 pub apart_as : (ds es : List ClientSide) → map id_of es ≡ map id_of ds → AreClientsApart ds → AreClientsApart es
 apart_as ds es same h = apart_by_ids es (subst (AreApart number) (sym same) (ids_apart ds h))
 
-pub has_as : {X : Type 0} (ds es : List ClientSide) → map id_of es ≡ map id_of ds → (o : Option (ClientId × X)) → HasDesk ds o → HasDesk es o
+pub has_as : (ds es : List ClientSide) → map id_of es ≡ map id_of ds → (o : Option ClientId) → HasDesk ds o → HasDesk es o
 has_as ds es same None has = tt
-has_as ds es same (Some its) has =
-    let is_its : ClientId → Bool = λ id. its.0.0 == id.0 in
+has_as ds es same (Some client) has =
+    let is_its : ClientId → Bool = λ id. client.0 == id.0 in
     ap is_some (sym (position_map id_of is_its es) ∙ ap (position is_its) same ∙ position_map id_of is_its ds) ∙ has
 
 pub apart_from : (n : ℕ) (ds : List ClientSide) → AreClientsApart ds → AreClientsApart (desks_from n ds)
 apart_from n ds h = apart_as ds (desks_from n ds) (ids_from n ds) h
 
-pub has_from : {X : Type 0} (n : ℕ) (ds : List ClientSide) (o : Option (ClientId × X)) → HasDesk ds o → HasDesk (desks_from n ds) o
+pub has_from : (n : ℕ) (ds : List ClientSide) (o : Option ClientId) → HasDesk ds o → HasDesk (desks_from n ds) o
 has_from n ds o has = has_as ds (desks_from n ds) (ids_from n ds) o has
 
 -- two ways to say that no two desks are of one client
@@ -85,14 +87,24 @@ pub apart_by_number : (ds : List ClientSide) → AreClientsApart ds → AreApart
 apart_by_number [] h = tt
 apart_by_number (d ∷ ds) h = (h.0, apart_by_number ds h.1)
 
+phase_opened : {T : Type 0} {client : ℕ} {phase : PhaseType} (es : List (Event T)) (passes : ℕ) (books : PhaseAccounts) → ArePhaseCounted client phase es (1 + passes) books → ArePhaseCounted client phase es (1 + (1 + passes)) (phase_with_tills 1 books)
+phase_opened es passes books h = record {
+  grants = record { total = h.grants.total; gathered = h.grants.gathered; open_tills = omega (arith, h.grants.open_tills) };
+  cost = record { total = h.cost.total; gathered = h.cost.gathered; open_tills = omega (arith, h.cost.open_tills) };
+}
+
+-- a phase whose tills are few has room for one more
+pub phase_room : {T : Type 0} {client : ℕ} {phase : PhaseType} (es : List (Event T)) (tills : ℕ) (books : PhaseAccounts) → ArePhaseCounted client phase es tills books → tills < max_open_tills → HasPhaseRoom books
+phase_room es tills books h few = record { grants = omega (arith, few, h.grants.open_tills); cost = omega (arith, few, h.cost.open_tills) }
+
 pub desk_opened : {T : Type 0} (es : List (Event T)) (server passes : ℕ) (d : ClientSide) → IsDesk es server passes d → IsDesk es server (1 + passes) (desk_with_tills 1 d)
 desk_opened es server passes d h = record {
   its_server = h.its_server;
   stamps = h.stamps;
   delta = h.delta;
   rho = h.rho;
-  reservation = record { total = h.reservation.total; gathered = h.reservation.gathered; open_tills = omega (arith, h.reservation.open_tills) };
-  priority = record { total = h.priority.total; gathered = h.priority.gathered; open_tills = omega (arith, h.priority.open_tills) };
+  reservation = phase_opened es passes d.books.reservation h.reservation;
+  priority = phase_opened es passes d.books.priority h.priority;
 }
 
 -- ---- a worker that reaches each desk
@@ -139,7 +151,8 @@ module _ {T : Type 0} (a : AccountsState T) (place : ℕ) (within : place < leng
       let fewer = reached_by_fewer k a.workers place within past in
       let few = h.few_workers in
       let was = h.desks k inside in
-      record { reservation = omega (arith, fewer, few, was.reservation.open_tills); priority = omega (arith, fewer, few, was.priority.open_tills) }
+      let within : 1 + reaching k a.workers < max_open_tills = omega (arith, fewer, few) in
+      record { reservation = phase_room a.history (1 + reaching k a.workers) _ was.reservation within; priority = phase_room a.history (1 + reaching k a.workers) _ was.priority within }
 
   extended_desks : AreDesks a.history a.server (with_reach place (length a.desks) a.workers) (desks_from from a.desks)
   extended_desks k l = by_place (cases_lt k from) where
@@ -164,10 +177,11 @@ module _ {T : Type 0} (a : AccountsState T) (place : ℕ) (within : place < leng
         reach = all_set (λ x. x.reach ≤ length (desks_from from a.desks)) a.workers place v (all_as _ _ (λ x l. omega (arith, l, many)) a.workers h.reach) (omega (arith, many));
         workers_apart = apart_set a.workers place v within refl h.workers_apart;
         clients_apart = apart_from from a.desks h.clients_apart;
-        granted = all_as _ _ (λ e. has_from from a.desks (grant_in e.reply)) a.history h.granted;
-        queued = all_as _ _ (λ e. has_from from a.desks (accepted e)) a.history h.queued;
+        granted = all_as _ _ (λ e. has_from from a.desks (option_map (λ g. g.client) (grant_in e.reply))) a.history h.granted;
+        queued = all_as _ _ (λ e. has_from from a.desks (option_map (λ s. s.0) (accepted e))) a.history h.queued;
         seated = all_as _ _ (λ e is. seated_set e.worker.0 a.workers place v refl ∙ is) a.history h.seated;
         tokens_fit = all_set (λ x. IsOpen x → AreTokensFit a.first (length a.history) x.books) a.workers place v h.tokens_fit (all_there (λ x. IsOpen x → AreTokensFit a.first (length a.history) x.books) a.workers place within h.tokens_fit);
+        cost_fits = h.cost_fits;
         within = h.within;
         few = h.few;
         limit = h.limit;

@@ -1,6 +1,6 @@
 -- Accounts with a desk more are consistent.
 use Rattle.std.proofs.Common.{◌≡◌, ℕ, suc, ◌+◌, ◌<◌, ◌≤◌, ◌&&◌, Bool, true, false, not, true≢false, cond, List, [], ◌∷◌, ◌++◌, map, length, length-append, refl, sym, ap, ◌∙◌, subst, Option, Some, None, inl, inr, ◌⊎◌, arith}
-use Rattle.std.specs.Prelude.{◌==◌, ◌||◌, Result, Ok, Err, OnErr, OnOk, nat_lt, if◌then◌else◌, is_some, slice_index_or}
+use Rattle.std.specs.Prelude.{◌==◌, ◌||◌, Result, Ok, Err, OnErr, OnOk, nat_lt, if◌then◌else◌, is_some, option_map, slice_index_or}
 use Rattle.std.specs.List.{AllByRecursion, list_any, position, prefix_len}
 use Rattle.std.proofs.lemmas.Bool.{cases_lt, eqb-true, le-ltb, lt-ltb, ltb-false, ltb-true}
 use Rattle.std.proofs.lemmas.List.{get_or_append_left, map-append}
@@ -13,13 +13,14 @@ use Rattle.dmc_types.specs.declared.config.PhaseType.TheVariants.{Reservation, P
 use Rattle.dmc_tag.specs.declared.event.Event.{Event}
 use Rattle.dmc_lemmas.proofs.Lists.{all_as, all_next}
 use Rattle.dmc_ledger.specs.Accounts.{Account}
-use Rattle.dmc_ledger.specs.Bundles.{ClientSide, client_side}
+use Rattle.dmc_ledger.specs.Bundles.{ClientSide, PhaseAccounts, client_side}
 use Rattle.dmc_ledger.specs.declared.desk.ClientDesk.{ClientDesk}
 use Rattle.dmc_shared.specs.Segmented.{Segmented}
 use Rattle.dmc_book.specs.BookState.{AccountsState, WorkerSide, accounts_of, no_desk}
-use Rattle.dmc_book.specs.Consistent.{AreClientsApart, AreConsistent, AreDesks, HasDesk, IsCounted, IsDesk, reaching}
-use Rattle.dmc_book.specs.Counts.{accepted, count, delta_added, grant_in, grants_added, is_phase, one_if, counts_for, rho_added, stamps_added, stamps_for, units_for}
-use Rattle.dmc_book.specs.Joining.{IsUnissued, IsUnused}
+use Rattle.dmc_book.specs.Consistent.{AreClientsApart, AreConsistent, AreDesks, ArePhaseCounted, HasDesk, IsCounted, IsDesk, reaching}
+use Rattle.dmc_book.specs.declared.counts.Grant.{Grant}
+use Rattle.dmc_book.specs.Counts.{accepted, costs_added, costs_for, count, delta_added, grant_in, grants_added, is_phase, one_if, counts_for, rho_added, stamps_added, stamps_for, units_for}
+use Rattle.dmc_book.specs.Joining.{IsPhaseUnissued, IsUnissued, IsUnused}
 use Rattle.dmc_book.specs.internal.Joining.{accounts_admitted}
 use Rattle.dmc_book.specs.Moves.{desk_place}
 use Rattle.dmc_book.proofs.OpeningLemmas.{named_as}
@@ -73,15 +74,19 @@ module _ (ds : List ClientSide) (c : ℕ) (none : desk_place c ds ≡ None) wher
     by_case false e = refl
     by_case true e = absurd (true≢false (sym has ∙ ap (λ m. is_some (desk_place m ds)) (eqb-true n c e) ∙ ap is_some none))
 
-  no_units : (phase : PhaseType) (o : Option (ClientId × PhaseType)) → HasDesk ds o → units_for c phase o ≡ 0
+  no_units : (phase : PhaseType) (o : Option Grant) → HasDesk ds (option_map (λ g. g.client) o) → units_for c phase o ≡ 0
   no_units phase None h = refl
-  no_units phase (Some grant) h = ap (λ b. one_if (b && is_phase phase grant.1)) (other grant.0.0 h)
+  no_units phase (Some grant) h = ap (λ b. one_if (b && is_phase phase grant.phase)) (other grant.client.0 h)
 
-  no_stamps : (o : Option (ClientId × Params)) → HasDesk ds o → stamps_for c o ≡ 0
+  no_costs : (phase : PhaseType) (o : Option Grant) → HasDesk ds (option_map (λ g. g.client) o) → costs_for c phase o ≡ 0
+  no_costs phase None h = refl
+  no_costs phase (Some grant) h = ap (λ b. if b && is_phase phase grant.phase then grant.cost else 0) (other grant.client.0 h)
+
+  no_stamps : (o : Option (ClientId × Params)) → HasDesk ds (option_map (λ s. s.0) o) → stamps_for c o ≡ 0
   no_stamps None h = refl
   no_stamps (Some stamp) h = ap one_if (other stamp.0.0 h)
 
-  no_counts_for : (o : Option (ClientId × Params)) → HasDesk ds o → counts_for c o ≡ no_counts
+  no_counts_for : (o : Option (ClientId × Params)) → HasDesk ds (option_map (λ s. s.0) o) → counts_for c o ≡ no_counts
   no_counts_for None h = refl
   no_counts_for (Some stamp) h = ap (λ b. if b then counts_of stamp.1 else no_counts) (other stamp.0.0 h)
 
@@ -90,10 +95,16 @@ module _ {T : Type 0} (adds : Event T → ℕ) (es : List (Event T)) where
   unissued book h none = record { total = h.nothing ∙ sym none; gathered = omega (arith, h.nothing); open_tills = h.one_till }
 
 module _ {T : Type 0} (a : AccountsState T) (h : AreConsistent a) (d : ClientSide) (unused : IsUnused a.server d) (none : desk_place d.client a.desks ≡ None) where
-  none_granted : (phase : PhaseType) → count (grants_added d.client phase) a.history ≡ 0
-  none_granted phase = nothing_counted _ a.history (all_as _ _ (λ e. no_units a.desks d.client none phase (grant_in e.reply)) a.history h.granted)
+  none_granted : (added : Event T → ℕ) → ((e : Event T) → HasDesk a.desks (option_map (λ g. g.client) (grant_in e.reply)) → added e ≡ 0) → count added a.history ≡ 0
+  none_granted added nothing = nothing_counted added a.history (all_as _ _ nothing a.history h.granted)
 
-  none_queued : (added : Event T → ℕ) → ((e : Event T) → HasDesk a.desks (accepted e) → added e ≡ 0) → count added a.history ≡ 0
+  unissued_phase : (phase : PhaseType) (books : PhaseAccounts) → IsPhaseUnissued books → ArePhaseCounted d.client phase a.history 1 books
+  unissued_phase phase books is = record {
+    grants = unissued (grants_added d.client phase) a.history books.grants is.grants (none_granted (grants_added d.client phase) (λ e. no_units a.desks d.client none phase (grant_in e.reply)));
+    cost = unissued (costs_added d.client phase) a.history books.cost is.cost (none_granted (costs_added d.client phase) (λ e. no_costs a.desks d.client none phase (grant_in e.reply)));
+  }
+
+  none_queued : (added : Event T → ℕ) → ((e : Event T) → HasDesk a.desks (option_map (λ s. s.0) (accepted e)) → added e ≡ 0) → count added a.history ≡ 0
   none_queued added nothing = nothing_counted added a.history (all_as _ _ nothing a.history h.queued)
 
   last_desk : IsDesk a.history a.server 0 d
@@ -102,8 +113,8 @@ module _ {T : Type 0} (a : AccountsState T) (h : AreConsistent a) (d : ClientSid
     stamps = unused.stamps ∙ sym (none_queued (stamps_added d.client) (λ e. no_stamps a.desks d.client none (accepted e)));
     delta = unused.delta ∙ sym (none_queued (delta_added d.client) (λ e has. ap (λ (p : Counts). p.delta) (no_counts_for a.desks d.client none (accepted e) has)));
     rho = unused.rho ∙ sym (none_queued (rho_added d.client) (λ e has. ap (λ (p : Counts). p.rho) (no_counts_for a.desks d.client none (accepted e) has)));
-    reservation = unissued (grants_added d.client Reservation) a.history d.books.reservation unused.reservation (none_granted Reservation);
-    priority = unissued (grants_added d.client Priority) a.history d.books.priority unused.priority (none_granted Priority);
+    reservation = unissued_phase Reservation d.books.reservation unused.reservation;
+    priority = unissued_phase Priority d.books.priority unused.priority;
   }
 
   -- no pass has tills of it
@@ -129,9 +140,9 @@ module _ {T : Type 0} (a : AccountsState T) (h : AreConsistent a) (d : ClientSid
   apart_more [] apart others = (tt, tt)
   apart_more (x ∷ ds) apart others = (all_next (λ o. (o.client == x.client) ≡ false) ds d apart.0 others.0, apart_more ds apart.1 others.1)
 
-  still_has : {X : Type 0} (o : Option (ClientId × X)) → HasDesk a.desks o → HasDesk (a.desks ++ d ∷ []) o
+  still_has : (o : Option ClientId) → HasDesk a.desks o → HasDesk (a.desks ++ d ∷ []) o
   still_has None has = tt
-  still_has (Some its) has = found_among_more (λ x. its.0.0 == x.client) a.desks (d ∷ []) has
+  still_has (Some client) has = found_among_more (λ x. client.0 == x.client) a.desks (d ∷ []) has
 
   pub consistent_admitted : AreConsistent (accounts_admitted d a)
   consistent_admitted = record {
@@ -140,10 +151,11 @@ module _ {T : Type 0} (a : AccountsState T) (h : AreConsistent a) (d : ClientSid
     reach = all_as _ _ (λ w l. omega (arith, l, length-append a.desks (d ∷ []))) a.workers h.reach;
     workers_apart = h.workers_apart;
     clients_apart = apart_more a.desks h.clients_apart (not_found (λ x. d.client == x.client) a.desks none);
-    granted = all_as _ _ (λ e. still_has (grant_in e.reply)) a.history h.granted;
-    queued = all_as _ _ (λ e. still_has (accepted e)) a.history h.queued;
+    granted = all_as _ _ (λ e. still_has (option_map (λ g. g.client) (grant_in e.reply))) a.history h.granted;
+    queued = all_as _ _ (λ e. still_has (option_map (λ s. s.0) (accepted e))) a.history h.queued;
     seated = h.seated;
     tokens_fit = h.tokens_fit;
+    cost_fits = h.cost_fits;
     within = h.within;
     few = h.few;
     limit = h.limit;

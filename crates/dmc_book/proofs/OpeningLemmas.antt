@@ -5,6 +5,7 @@ use Rattle.std.specs.List.{AllByRecursion, list_any}
 use Rattle.std.proofs.lemmas.Bool.{lt-ltb}
 use Rattle.std.proofs.lemmas.List.{get_or-map, length-map, length-take-le, map-append, take_more, take-append-drop}
 use Rattle.indexmap.specs.IndexSet.{insert_key}
+use Rattle.dmc_types.specs.Limits.{max_open_tills}
 use Rattle.dmc_types.specs.Values.{Setting}
 use Rattle.dmc_types.specs.declared.ids.ClientId.{ClientId}
 use Rattle.dmc_types.specs.declared.ids.WorkerId.{WorkerId}
@@ -13,14 +14,14 @@ use Rattle.dmc_tag.specs.State.{State, opening}
 use Rattle.dmc_tag.specs.declared.event.Event.{Event}
 use Rattle.dmc_lemmas.proofs.Lists.{all_append, all_at, all_mapped}
 use Rattle.dmc_ledger.specs.Accounts.{Account, new_book}
-use Rattle.dmc_ledger.specs.Bundles.{ClientSide, client_side, new_client_side}
+use Rattle.dmc_ledger.specs.Bundles.{ClientSide, PhaseAccounts, client_side, new_client_side}
 use Rattle.dmc_ledger.specs.declared.desk.ClientDesk.{ClientDesk}
 use Rattle.dmc_book.specs.BookState.{PassState, WorkerSide, no_desk}
 use Rattle.dmc_book.specs.Counts.{one_if}
 use Rattle.dmc_book.specs.Consistent.{AreConsistent, AreTokensFit, HasLeft, IsCounted, IsReplayed, IsWorker, IsDesk, AreDesks, AreWorkersApart, AreClientsApart, reaching}
 use Rattle.dmc_book.specs.Joining.{id_of}
 use Rattle.dmc_book.specs.Moves.{IsOpen}
-use Rattle.dmc_book.specs.Opening.{AreApart, AreNamedOnce, IsNewDesk, desk_with_tills, with_tills, new_unit, new_worker, new_workers, new_pass, new_passes, new_accounts_state}
+use Rattle.dmc_book.specs.Opening.{AreApart, AreNamedOnce, IsNewDesk, desk_with_tills, phase_with_tills, with_tills, new_unit, new_worker, new_workers, new_pass, new_passes, new_accounts_state}
 use Rattle.dmc_book.specs.PerCount.{books_per_worker}
 use Rattle.dmc_book.specs.internal.Opening.{HaveRoom}
 use Rattle.std.proofs.lemmas.Bool.{or_parts}
@@ -112,8 +113,8 @@ module _ {T : Type 0} where
     stamps = refl;
     delta = refl;
     rho = refl;
-    reservation = record { total = refl; gathered = refl; open_tills = refl };
-    priority = record { total = refl; gathered = refl; open_tills = refl };
+    reservation = record { grants = record { total = refl; gathered = refl; open_tills = refl }; cost = record { total = refl; gathered = refl; open_tills = refl } };
+    priority = record { grants = record { total = refl; gathered = refl; open_tills = refl }; cost = record { total = refl; gathered = refl; open_tills = refl } };
   }
 
   desk_counted : (server k : ℕ) (d : ClientSide) → IsNewDesk server d → IsDesk {T = T} [] server k (desk_with_tills k d)
@@ -122,7 +123,7 @@ module _ {T : Type 0} where
 workers_counted : (T : Type 0) (r n : ℕ) (ws : List WorkerId) → AllByRecursion (λ w. IsWorker {T = T} [] w ⊎ HasLeft {T = T} [] w) (new_workers r n ws)
 workers_counted T r n [] = tt
 workers_counted T r n (w ∷ ws) = (
-  inl (record { renewed = omega arith; books = (new_counted _ _, new_counted _ _, new_counted _ _, new_counted _ _, new_counted _ _) }),
+  inl (record { renewed = omega arith; books = (new_counted _ _, new_counted _ _, new_counted _ _, new_counted _ _, new_counted _ _, new_counted _ _) }),
   workers_counted T r (n + books_per_worker) ws,
 )
 
@@ -176,6 +177,7 @@ module _ {T : Type 0} where
     queued = tt;
     seated = tt;
     tokens_fit = tt;
+    cost_fits = omega arith;
     within = omega arith;
     few = omega arith;
     limit = omega arith;
@@ -199,6 +201,7 @@ module _ {T : Type 0} where
     queued = tt;
     seated = tt;
     tokens_fit = tokens_low (length ds) n ws;
+    cost_fits = omega arith;
     within = omega arith;
     few = omega arith;
     limit = omega (arith, limit);
@@ -256,18 +259,25 @@ module _ (ws : List WorkerId) (i : ℕ) (w : WorkerId) (within : i < length ws) 
 tills_more : (k : ℕ) (a : Account) → with_tills 1 (with_tills k a) ≡ with_tills (k + 1) a
 tills_more k a = let e : (a.open_tills + k) + 1 ≡ a.open_tills + (k + 1) = omega arith in ap (λ (n : ℕ). record a { open_tills = n }) e
 
+phase_more : (k : ℕ) (books : PhaseAccounts) → phase_with_tills 1 (phase_with_tills k books) ≡ phase_with_tills (k + 1) books
+phase_more k books = rw (tills_more k books.grants, tills_more k books.cost) refl
+
 desk_more : (k : ℕ) (d : ClientSide) → desk_with_tills 1 (desk_with_tills k d) ≡ desk_with_tills (k + 1) d
-desk_more k d = rw (tills_more k d.books.reservation, tills_more k d.books.priority) refl
+desk_more k d = rw (phase_more k d.books.reservation, phase_more k d.books.priority) refl
 
 pub desks_more : (k : ℕ) (ds : List ClientSide) → map (desk_with_tills 1) (map (desk_with_tills k) ds) ≡ map (desk_with_tills (k + 1)) ds
 desks_more k [] = refl
 desks_more k (d ∷ ds) = ap (λ x. x ∷ map (desk_with_tills 1) (map (desk_with_tills k) ds)) (desk_more k d) ∙ ap (λ xs. desk_with_tills (k + 1) d ∷ xs) (desks_more k ds)
 
+phase_none : (books : PhaseAccounts) → phase_with_tills 0 books ≡ books
+phase_none books =
+    let none : (a : Account) → with_tills 0 a ≡ a = λ a. (let e : a.open_tills + 0 ≡ a.open_tills = omega arith in ap (λ (n : ℕ). record a { open_tills = n }) e) in
+    rw (none books.grants, none books.cost) refl
+
 pub desks_none : (ds : List ClientSide) → map (desk_with_tills 0) ds ≡ ds
 desks_none [] = refl
 desks_none (d ∷ ds) =
-    let none : (a : Account) → with_tills 0 a ≡ a = λ a. (let e : a.open_tills + 0 ≡ a.open_tills = omega arith in ap (λ (n : ℕ). record a { open_tills = n }) e) in
-    ap (λ xs. desk_with_tills 0 d ∷ xs) (desks_none ds) ∙ ap (λ x. x ∷ ds) (rw (none d.books.reservation, none d.books.priority) refl)
+    ap (λ xs. desk_with_tills 0 d ∷ xs) (desks_none ds) ∙ ap (λ x. x ∷ ds) (rw (phase_none d.books.reservation, phase_none d.books.priority) refl)
 
 -- the tills of a desk are of its books, however many are open
 pub units_stay : (k : ℕ) (ds : List ClientSide) → map new_unit (map (desk_with_tills k) ds) ≡ map new_unit ds
@@ -281,7 +291,8 @@ pass_as place n k clients names sides ds w named opened = rw (named, opened, uni
 pub room_for_one : (server k : ℕ) (ds : List ClientSide) → AllByRecursion (IsNewDesk server) ds → k < 4294967294 → (i : ℕ) → i < length ds → HaveRoom (get_or (map (desk_with_tills k) ds) i no_desk).books
 room_for_one server k [] new few i within = absurd (omega (arith, within))
 room_for_one server k (d ∷ ds) new few zero within =
-    subst (λ (x : ClientSide). HaveRoom (desk_with_tills k x).books) (sym new.0.1) (record { reservation = omega arith; priority = omega arith })
+    let one : 1 + k < max_open_tills = omega (arith, few) in
+    subst (λ (x : ClientSide). HaveRoom (desk_with_tills k x).books) (sym new.0.1) (record { reservation = record { grants = one; cost = one }; priority = record { grants = one; cost = one } })
 room_for_one server k (d ∷ ds) new few (suc i) within = room_for_one server k ds new.1 few i (omega (arith, within))
 
 -- ---- what a pop takes

@@ -54,7 +54,7 @@ module _ {T : Type 0} where
   renewed_counts : (es : List (Event T)) (w : WorkerSide) → IsWorker es w → IsWorker es (renewed_worker (length es) w)
   renewed_counts es w h = record {
     renewed = omega arith;
-    books = (h.books.0, h.books.1, begun _ es w.books.tokens.number, h.books.3, begun _ es w.books.granted.number);
+    books = (h.books.0, h.books.1, begun _ es w.books.tokens.number, h.books.3, begun _ es w.books.granted.number, h.books.5);
   }
 
   -- the worker at a place is counted, if it was not dismissed
@@ -79,6 +79,7 @@ module _ {T : Type 0} where
         queued = h.queued;
         seated = all_as _ _ (λ e is. seated_set e.worker.0 a.workers place v refl ∙ is) a.history h.seated;
         tokens_fit = all_set (λ x. IsOpen x → AreTokensFit a.first (length a.history) x.books) a.workers place v h.tokens_fit (λ still. record { tokens = omega (arith, h.within); granted = omega (arith, h.within) });
+        cost_fits = h.cost_fits;
         within = h.within;
         few = h.few;
         limit = h.limit;

@@ -4,16 +4,19 @@ use Rattle.std.specs.Prelude.{⊤, nat_lt}
 use Rattle.std.specs.List.{AllByRecursion}
 use Rattle.std.proofs.lemmas.Bool.{cases_lt, le-ltb, lt-ltb}
 use Rattle.std.proofs.lemmas.List.{get_or_past, map-append}
+use Rattle.dmc_types.specs.declared.config.PhaseType.{PhaseType}
 use Rattle.dmc_types.specs.declared.config.PhaseType.TheVariants.{Reservation, Priority}
 use Rattle.dmc_tag.specs.declared.event.Event.{Event}
 use Rattle.dmc_ledger.specs.Accounts.{Account, Holding, after_closing}
-use Rattle.dmc_ledger.specs.Bundles.{ClientSide, GrantHoldings}
+use Rattle.dmc_ledger.specs.Bundles.{ClientSide, GrantHoldings, PhaseAccounts, PhaseHoldings}
+use Rattle.dmc_ledger.specs.Moves.{ArePhaseOf}
 use Rattle.dmc_book.specs.PerCount.{WorkerCounts, map_counts}
 use Rattle.dmc_book.specs.BookState.{PassState, WorkerSide, no_desk, no_unit, no_worker}
-use Rattle.dmc_book.specs.Consistent.{AreDesks, HasLeft, IsCounted, IsOpenBook, IsWorker, reaching}
+use Rattle.dmc_book.specs.Consistent.{AreDesks, ArePhaseCounted, HasLeft, IsCounted, IsOpenBook, IsWorker, reaching}
 use Rattle.dmc_book.specs.Counts.{counted_books, one_if}
 use Rattle.dmc_book.specs.Moves.{AreOf, IsEnrolled}
-use Rattle.dmc_book.specs.Settling.{AreDeskUnits, AreSettledDesks, AreUnitsTakenIn, HasGathered, IsDeskTakenIn, IsGathered, IsSettledBook, IsSettledWorker, IsTakenIn, closed_worker, left_in, open_passes}
+use Rattle.dmc_book.specs.declared.settled.Amounts.{Amounts}
+use Rattle.dmc_book.specs.Settling.{AreDeskUnits, AreSettledDesks, AreUnitsTakenIn, HasGathered, IsDeskTakenIn, IsGathered, IsPhaseTakenIn, IsSettledBook, IsSettledPhase, IsSettledWorker, IsTakenIn, amounts_in, closed_worker, left_in, no_amounts, open_passes}
 use Rattle.dmc_book.specs.internal.Settling.{AreOneOpen, ArePassesTakenIn, IsOpenOrShut, IsShut, having}
 use Rattle.dmc_lemmas.proofs.Lists.{all_append, all_as, all_at, all_mapped}
 use Rattle.dmc_book.proofs.PerCountLemmas.{each_as, map_same}
@@ -197,38 +200,55 @@ taken_more n m u v a b c h j = record {
   open_tills = omega (arith, h.open_tills, j.open_tills);
 }
 
+phase_none : (a : PhaseAccounts) → IsPhaseTakenIn 0 no_amounts a a
+phase_none a = record { grants = taken_none a.grants; cost = taken_none a.cost }
+
+phase_more : (n m : ℕ) (tills : PhaseHoldings) (left : Amounts) (a b c : PhaseAccounts) → IsPhaseTakenIn n left a b → IsPhaseTakenIn m (amounts_in tills) b c
+    → IsPhaseTakenIn (m + n) (record { grants = tills.grants.amount + left.grants; cost = tills.cost.amount + left.cost }) a c
+phase_more n m tills left a b c h j = record {
+  grants = taken_more n m left.grants tills.grants.amount a.grants b.grants c.grants h.grants j.grants;
+  cost = taken_more n m left.cost tills.cost.amount a.cost b.cost c.cost h.cost j.cost;
+}
+
 pub passes_none : (ds : List ClientSide) → ArePassesTakenIn [] ds ds
 passes_none ds = record {
   as_many = refl;
-  each = λ k l. record { its = refl; reservations = taken_none _; priorities = taken_none _ };
+  each = λ k l. record { its = refl; reservations = phase_none _; priorities = phase_none _ };
 }
 
 -- beyond the tills there is none to gather
-pub unit_past : (units : List GrantHoldings) (k : ℕ) (d : ClientSide) → length units ≤ k → IsDeskTakenIn (one_if (nat_lt k (length units))) (slice_index_or units k no_unit).reservation.amount (slice_index_or units k no_unit).priority.amount d d
+pub unit_past : (units : List GrantHoldings) (k : ℕ) (d : ClientSide) → length units ≤ k → IsDeskTakenIn (one_if (nat_lt k (length units))) (amounts_in (slice_index_or units k no_unit).reservation) (amounts_in (slice_index_or units k no_unit).priority) d d
 unit_past units k d past =
     let none : one_if (nat_lt k (length units)) ≡ 0 = ap one_if (le-ltb k (length units) past) in
-    rw (none, get_or_past units k no_unit past) (record { its = refl; reservations = taken_none d.books.reservation; priorities = taken_none d.books.priority })
+    rw (none, get_or_past units k no_unit past) (record { its = refl; reservations = phase_none d.books.reservation; priorities = phase_none d.books.priority })
 
-desk_more : (n m r s : ℕ) (u : GrantHoldings) (a b c : ClientSide) → IsDeskTakenIn n r s a b → IsDeskTakenIn m u.reservation.amount u.priority.amount b c → IsDeskTakenIn (m + n) (u.reservation.amount + r) (u.priority.amount + s) a c
-desk_more n m r s u a b c h j = record {
-  its = j.its ∙ ap (λ (x : ClientSide). record x { books = c.books }) h.its;
-  reservations = taken_more n m r u.reservation.amount a.books.reservation b.books.reservation c.books.reservation h.reservations j.reservations;
-  priorities = taken_more n m s u.priority.amount a.books.priority b.books.priority c.books.priority h.priorities j.priorities;
-}
+desk_more : (n m k : ℕ) (p : PassState) (ps : List PassState) (a b c : ClientSide) → IsDeskTakenIn n (left_in Reservation k ps) (left_in Priority k ps) a b
+    → IsDeskTakenIn m (amounts_in (slice_index_or p.units k no_unit).reservation) (amounts_in (slice_index_or p.units k no_unit).priority) b c
+    → IsDeskTakenIn (m + n) (left_in Reservation k (p ∷ ps)) (left_in Priority k (p ∷ ps)) a c
+desk_more n m k p ps a b c h j =
+    let u = slice_index_or p.units k no_unit in
+    record {
+      its = j.its ∙ ap (λ (x : ClientSide). record x { books = c.books }) h.its;
+      reservations = phase_more n m u.reservation (left_in Reservation k ps) a.books.reservation b.books.reservation c.books.reservation h.reservations j.reservations;
+      priorities = phase_more n m u.priority (left_in Priority k ps) a.books.priority b.books.priority c.books.priority h.priorities j.priorities;
+    }
 
 pub passes_more : (p : PassState) (ps : List PassState) (ds es fs : List ClientSide) → ArePassesTakenIn ps ds es → AreUnitsTakenIn p.units es fs → ArePassesTakenIn (p ∷ ps) ds fs
 passes_more p ps ds es fs h j = record {
   as_many = j.as_many ∙ h.as_many;
-  each = λ k l. desk_more (having k ps) (one_if (nat_lt k (length p.units))) (left_in Reservation k ps) (left_in Priority k ps) (slice_index_or p.units k no_unit) (slice_index_or ds k no_desk) (slice_index_or es k no_desk) (slice_index_or fs k no_desk) (h.each k l) (j.each k (omega (arith, h.as_many, l)));
+  each = λ k l. desk_more (having k ps) (one_if (nat_lt k (length p.units))) k p ps (slice_index_or ds k no_desk) (slice_index_or es k no_desk) (slice_index_or fs k no_desk) (h.each k l) (j.each k (omega (arith, h.as_many, l)));
 }
+
+phase_at : (tills : PhaseHoldings) (n : ℕ) (amounts : Amounts) (a b : PhaseAccounts) → IsPhaseTakenIn n amounts a b → ArePhaseOf tills a → ArePhaseOf tills b
+phase_at tills n amounts a b h of = record { grants = of.grants ∙ sym h.grants.number; cost = of.cost ∙ sym h.cost.number }
 
 -- the tills of a pass are of the desks, whatever these gathered
 pub units_at : (units : List GrantHoldings) (ps : List PassState) (ds es : List ClientSide) → ArePassesTakenIn ps ds es → AreDeskUnits ds units → AreDeskUnits es units
 units_at units ps ds es h own = record {
   within = omega (arith, own.within, h.as_many);
   each = λ k l. (let inside : k < length ds = omega (arith, own.within, l) in record {
-    reservation = (own.each k l).reservation ∙ sym ((h.each k inside).reservations.number);
-    priority = (own.each k l).priority ∙ sym ((h.each k inside).priorities.number);
+    reservation = phase_at _ _ _ _ _ (h.each k inside).reservations (own.each k l).reservation;
+    priority = phase_at _ _ _ _ _ (h.each k inside).priorities (own.each k l).priority;
   });
 }
 
@@ -289,6 +309,12 @@ module _ {T : Type 0} where
     open_tills = omega (arith, same, h.open_tills, j.open_tills);
   }
 
+  settled_phase : {client : ℕ} {phase : PhaseType} (es : List (Event T)) (n m : ℕ) (held : Amounts) (a b : PhaseAccounts) → n ≡ m → ArePhaseCounted client phase es (1 + m) a → IsPhaseTakenIn n held a b → IsSettledPhase client phase es held a b
+  settled_phase es n m held a b same h j = record {
+    grants = settled_book _ es n m held.grants a.grants b.grants same h.grants j.grants;
+    cost = settled_book _ es n m held.cost a.cost b.cost same h.cost j.cost;
+  }
+
   pub settled_desks : (es : List (Event T)) (server : ℕ) (ws : List WorkerSide) (ps : List PassState) (ds fs : List ClientSide) → ((k : ℕ) → having k ps ≡ reaching k ws) → AreDesks es server ws ds → ArePassesTakenIn ps ds fs → AreSettledDesks es ps ds fs
   settled_desks es server ws ps ds fs same all h = record {
     as_many = h.as_many;
@@ -302,7 +328,7 @@ module _ {T : Type 0} where
           stamps = ap (λ (x : ClientSide). x.held.stamps.amount) now.its ∙ was.stamps;
           delta = ap (λ (x : ClientSide). x.held.delta.amount) now.its ∙ was.delta;
           rho = ap (λ (x : ClientSide). x.held.rho.amount) now.its ∙ was.rho;
-          reservations = settled_book _ es (having k ps) (reaching k ws) _ d.books.reservation f.books.reservation (same k) was.reservation now.reservations;
-          priorities = settled_book _ es (having k ps) (reaching k ws) _ d.books.priority f.books.priority (same k) was.priority now.priorities;
+          reservations = settled_phase es (having k ps) (reaching k ws) (left_in Reservation k ps) d.books.reservation f.books.reservation (same k) was.reservation now.reservations;
+          priorities = settled_phase es (having k ps) (reaching k ws) (left_in Priority k ps) d.books.priority f.books.priority (same k) was.priority now.priorities;
         });
   }

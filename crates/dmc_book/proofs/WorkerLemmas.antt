@@ -20,7 +20,7 @@ pub issue_none : (a : Account) → after_issue 0 a ≡ a
 issue_none a = let e : a.held + 0 ≡ a.held = omega arith in ap (λ (n : ℕ). record a { held = n }) e
 
 books_none : (b : WorkerCounts Account) → books_after no_numbers b ≡ b
-books_none b = map_same (after_issue 0) b (issue_none b.calls, issue_none b.misses, issue_none b.tokens, issue_none b.grants, issue_none b.granted)
+books_none b = map_same (after_issue 0) b (issue_none b.calls, issue_none b.misses, issue_none b.tokens, issue_none b.grants, issue_none b.granted, issue_none b.cost)
 
 module _ {T : Type 0} (e : Event T) where
   pub unmoved_at : (w : WorkerSide) (b : Bool) → (e.worker.0 == w.worker) ≡ b → b ≡ false → worker_after e w ≡ w

@@ -1,12 +1,12 @@
 -- What contracts see of a queue's book and of a worker's pass.
-use Rattle.std.specs.Prelude.{ℕ, Bool, List, map}
+use Rattle.std.specs.Prelude.{ℕ, Bool, List, Option, map}
 use Rattle.std.specs.Arc.{arc_value}
 use Rattle.dmc_types.specs.Values.{Setting}
 use Rattle.dmc_types.specs.declared.ids.ClientId.{ClientId}
 use Rattle.dmc_tag.specs.declared.event.Event.{Event}
 use Rattle.dmc_shared.specs.Segmented.{Segmented}
 use Rattle.dmc_ledger.specs.Accounts.{Account, Holding, no_account, no_holding}
-use Rattle.dmc_ledger.specs.Bundles.{ClientSide, GrantHoldings, grant_holdings}
+use Rattle.dmc_ledger.specs.Bundles.{ClientSide, PhaseAccounts, PhaseHoldings, GrantHoldings, UnitValue, grant_holdings}
 use Rattle.dmc_book.specs.declared.seat.Seat.{Seat}
 use Rattle.dmc_book.specs.declared.pass.WorkerPass.{WorkerPass}
 use Rattle.dmc_book.specs.PerCount.{WorkerCounts, for_each}
@@ -43,13 +43,15 @@ pub record BookState (T : Type 0) : Type 0 where
   pub desks : List ClientSide
   pub closed : Bool
 
--- a worker's pass: the worker and its place in the book, its tills, and for each desk that it reaches a till of each phase
+-- a worker's pass: the worker and its place in the book, its tills, for each desk that it reaches tills of each phase, and the unit
+-- of its last grant until that is taken
 pub record PassState : Type 0 where
   pub worker : ℕ
   pub place : ℕ
   pub tills : WorkerCounts Holding
   pub clients : List ClientId
   pub units : List GrantHoldings
+  pub granted : Option UnitValue
 
 module _ {S : Type 0} where
   abbrev pub worker_side : Seat S → WorkerSide
@@ -62,6 +64,7 @@ module _ {S : Type 0} where
     tills = p.tills;
     clients = (arc_value p.clients).keys;
     units = map grant_holdings p.units.items;
+    granted = p.granted;
   }
 
 -- the state of accounts of these parts
@@ -95,13 +98,19 @@ state_of config accounts closed = record {
 abbrev pub no_worker : WorkerSide
 no_worker = record { worker = 0; renewed = 0; reach = 0; books = for_each no_account }
 
+abbrev pub no_phase_books : PhaseAccounts
+no_phase_books = record { grants = no_account; cost = no_account }
+
+abbrev pub no_phase_tills : PhaseHoldings
+no_phase_tills = record { grants = no_holding; cost = no_holding }
+
 abbrev pub no_desk : ClientSide
 no_desk = record {
   client = 0;
   server = 0;
   held = record { stamps = no_holding; delta = no_holding; rho = no_holding };
-  books = record { reservation = no_account; priority = no_account };
+  books = record { reservation = no_phase_books; priority = no_phase_books };
 }
 
 abbrev pub no_unit : GrantHoldings
-no_unit = record { reservation = no_holding; priority = no_holding }
+no_unit = record { reservation = no_phase_tills; priority = no_phase_tills }

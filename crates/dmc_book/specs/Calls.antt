@@ -3,7 +3,7 @@ use Rattle.std.specs.Prelude.{◌≡◌, ℕ, ◌-◌, ◌⊎◌, IsOk, IsTrue, 
 use Rattle.dmc_types.specs.declared.ids.ClientId.{ClientId}
 use Rattle.dmc_types.specs.declared.config.PhaseType.{PhaseType}
 use Rattle.dmc_types.specs.declared.command.Command.{Command}
-use Rattle.dmc_types.specs.declared.command.Command.TheVariants.{Register, Update, Add, Pull, Remove, Clean}
+use Rattle.dmc_types.specs.declared.command.Command.TheVariants.{Register, Update, Add, Pull, Remove, Cancel, Clean}
 use Rattle.dmc_types.specs.declared.refusal.Refusal.TheVariants.{Range}
 use Rattle.dmc_tag.specs.Tag.{Tagging}
 use Rattle.dmc_tag.specs.State.{State}
@@ -35,6 +35,7 @@ is_add (Update client info at) = false
 is_add (Add client token params at) = true
 is_add (Pull at) = false
 is_add (Remove client) = false
+is_add (Cancel client token counting) = false
 is_add (Clean at) = false
 
 -- a Register for a client without a desk
@@ -44,6 +45,7 @@ lacks_desk desks (Update client info at) = false
 lacks_desk desks (Add client token params at) = false
 lacks_desk desks (Pull at) = false
 lacks_desk desks (Remove client) = false
+lacks_desk desks (Cancel client token counting) = false
 lacks_desk desks (Clean at) = false
 
 abbrev pub event_of : {T : Type 0} → ℕ → Command → Reply T → Event T
@@ -60,6 +62,7 @@ Strays takes (Update client info at) reply = ⊥
 Strays takes (Add client token params at) reply = ⊥
 Strays takes (Pull at) reply = is_allowed takes reply ≡ false
 Strays takes (Remove client) reply = ⊥
+Strays takes (Cancel client token counting) reply = ⊥
 Strays takes (Clean at) reply = ⊥
 
 -- The history may have no place for the next event: the events that are kept fill their blocks of 1,024, or there are none, so
@@ -76,7 +79,7 @@ LacksMemory ops b command = (IsTrue (may_grow command) × IsOk (outcome ops (aft
 pub record Ran {T : Type 0} (ops : Tagging T) (old new : BookState T) (before later : PassState) (command : Command) (reply : Reply T) : Type 0 where
   pub reply_is : reply ≡ reply_to ops old command
   pub book : new ≡ book_after (event_of before.worker command reply) old
-  pub pass : later ≡ pass_after command reply before
+  pub pass : later ≡ pass_after old.server command reply before
 
 -- what is held of stamps in both is of the same books
 pub record AreAlike (tills held : StampHoldings) : Type 0 where

@@ -1,9 +1,10 @@
 -- What holds of all accounts, and of every queue's book: the invariants of their types.
-use Rattle.std.specs.Prelude.{◌≡◌, ℕ, ◌+◌, ◌*◌, ◌^◌, ◌<◌, ◌≤◌, ◌==◌, ◌⊎◌, nat_lt, true, false, List, [], ◌∷◌, drop, length, Option, Some, None, is_some, slice_index_or, ⊤}
+use Rattle.std.specs.Prelude.{◌≡◌, ℕ, ◌+◌, ◌*◌, ◌^◌, ◌<◌, ◌≤◌, ◌==◌, ◌⊎◌, nat_lt, true, false, List, [], ◌∷◌, drop, length, Option, Some, None, is_some, option_map, slice_index_or, ⊤}
 use Rattle.std.specs.List.{AllByRecursion, list_any}
 use Rattle.dmc_types.specs.Limits.{max_events, max_workers}
 use Rattle.dmc_types.specs.Values.{Setting}
 use Rattle.dmc_types.specs.declared.ids.ClientId.{ClientId}
+use Rattle.dmc_types.specs.declared.config.PhaseType.{PhaseType}
 use Rattle.dmc_types.specs.declared.config.PhaseType.TheVariants.{Reservation, Priority}
 use Rattle.dmc_tag.specs.Tag.{Tagging}
 use Rattle.dmc_tag.specs.State.{State}
@@ -11,9 +12,9 @@ use Rattle.dmc_tag.specs.Replay.{after, replays}
 use Rattle.dmc_tag.specs.declared.event.Event.{Event}
 use Rattle.dmc_shared.specs.Segmented.{max_released}
 use Rattle.dmc_ledger.specs.Accounts.{Account, total_of}
-use Rattle.dmc_ledger.specs.Bundles.{ClientSide}
+use Rattle.dmc_ledger.specs.Bundles.{ClientSide, PhaseAccounts}
 use Rattle.dmc_book.specs.BookState.{AccountsState, WorkerSide, no_desk}
-use Rattle.dmc_book.specs.Counts.{CountedBook, accepted, max_added, one_if, count, counted_books, stamps_added, delta_added, rho_added, grant_in, grants_added}
+use Rattle.dmc_book.specs.Counts.{CountedBook, accepted, max_added, one_if, count, counted_books, stamps_added, delta_added, rho_added, grant_in, grants_added, costs_added, grant_cost}
 use Rattle.dmc_book.specs.Moves.{IsOpen, desk_place}
 use Rattle.dmc_book.specs.PerCount.{WorkerCounts, EachCount}
 use Rattle.dmc_book.specs.Settling.{IsSettledWorker}
@@ -39,6 +40,11 @@ pub record HasLeft {T : Type 0} (history : List (Event T)) (w : WorkerSide) : Ty
   pub renewed : w.renewed ≤ length history
   pub reach : w.reach ≡ 0
 
+-- the books of a client's grants in a phase: of how many there are, and of what they cost
+pub record ArePhaseCounted {T : Type 0} (client : ℕ) (phase : PhaseType) (history : List (Event T)) (tills : ℕ) (books : PhaseAccounts) : Type 0 where
+  pub grants : IsCounted (grants_added client phase) history tills books.grants
+  pub cost : IsCounted (costs_added client phase) history tills books.cost
+
 -- the desk of a client: the stamps, deltas and rhos of its accepted adds, and the books of its grants, of which the held
 -- till of the tracker's desk is open and one in each of these passes
 pub record IsDesk {T : Type 0} (history : List (Event T)) (server passes : ℕ) (d : ClientSide) : Type 0 where
@@ -46,8 +52,8 @@ pub record IsDesk {T : Type 0} (history : List (Event T)) (server passes : ℕ) 
   pub stamps : d.held.stamps.amount ≡ count (stamps_added d.client) history
   pub delta : d.held.delta.amount ≡ count (delta_added d.client) history
   pub rho : d.held.rho.amount ≡ count (rho_added d.client) history
-  pub reservation : IsCounted (grants_added d.client Reservation) history (1 + passes) d.books.reservation
-  pub priority : IsCounted (grants_added d.client Priority) history (1 + passes) d.books.priority
+  pub reservation : ArePhaseCounted d.client Reservation history (1 + passes) d.books.reservation
+  pub priority : ArePhaseCounted d.client Priority history (1 + passes) d.books.priority
 
 -- how many workers' passes have tills of the desk at a place
 abbrev pub reaching : ℕ → List WorkerSide → ℕ
@@ -68,9 +74,9 @@ AreClientsApart [] = ⊤
 AreClientsApart (d ∷ ds) = AllByRecursion (λ other. (other.client == d.client) ≡ false) ds × AreClientsApart ds
 
 -- who is granted, or whose request is queued, if anyone's is, has a desk
-abbrev pub HasDesk : {X : Type 0} → List ClientSide → Option (ClientId × X) → Type 0
+abbrev pub HasDesk : List ClientSide → Option ClientId → Type 0
 HasDesk desks None = ⊤
-HasDesk desks (Some its) = is_some (desk_place its.0.0 desks) ≡ true
+HasDesk desks (Some client) = is_some (desk_place client.0 desks) ≡ true
 
 -- the worker of this number is enrolled
 abbrev pub IsSeated : List WorkerSide → ℕ → Type 0
@@ -82,6 +88,11 @@ pub record AreTokensFit (first events : ℕ) (books : WorkerCounts Account) : Ty
   pub tokens : total_of books.tokens + first * max_added ≤ 2 ^ 62 + events * max_added
   pub granted : total_of books.granted + first * max_added ≤ 2 ^ 62 + events * max_added
 
+-- What all grants cost together grows as fast. What it had grown to when events were last released leaves the desks' books room
+-- for the events that are kept.
+abbrev pub DoesCostFit : {T : Type 0} → ℕ → List (Event T) → Type 0
+DoesCostFit first history = count grant_cost history + first * max_added ≤ 2 ^ 62 + length history * max_added
+
 -- Workers and desks count the history. Each client that it queues or grants a request of has a desk, and each worker whose call
 -- it answers is enrolled. No total can pass the 2^63 of a book.
 pub record AreConsistent {T : Type 0} (a : AccountsState T) : Type 0 where
@@ -90,10 +101,11 @@ pub record AreConsistent {T : Type 0} (a : AccountsState T) : Type 0 where
   pub reach : AllByRecursion (λ w. w.reach ≤ length a.desks) a.workers
   pub workers_apart : AreWorkersApart a.workers
   pub clients_apart : AreClientsApart a.desks
-  pub granted : AllByRecursion (λ e. HasDesk a.desks (grant_in e.reply)) a.history
-  pub queued : AllByRecursion (λ e. HasDesk a.desks (accepted e)) a.history
+  pub granted : AllByRecursion (λ e. HasDesk a.desks (option_map (λ g. g.client) (grant_in e.reply))) a.history
+  pub queued : AllByRecursion (λ e. HasDesk a.desks (option_map (λ s. s.0) (accepted e))) a.history
   pub seated : AllByRecursion (λ e. IsSeated a.workers e.worker.0) a.history
   pub tokens_fit : AllByRecursion (λ w. IsOpen w → AreTokensFit a.first (length a.history) w.books) a.workers
+  pub cost_fits : DoesCostFit a.first a.history
   pub within : a.first ≤ length a.history
   pub few : a.first ≤ max_released
   pub limit : a.most ≤ a.first + max_events

@@ -5,11 +5,12 @@ use Rattle.dmc_types.specs.declared.ids.ClientId.{ClientId}
 use Rattle.dmc_types.specs.declared.config.PhaseType.{PhaseType}
 use Rattle.dmc_types.specs.declared.config.PhaseType.TheVariants.{Reservation, Priority}
 use Rattle.dmc_types.specs.declared.command.Command.{Command}
-use Rattle.dmc_types.specs.declared.command.Command.TheVariants.{Register, Update, Add, Pull, Remove, Clean}
+use Rattle.dmc_types.specs.declared.command.Command.TheVariants.{Register, Update, Add, Pull, Remove, Cancel, Clean}
 use Rattle.dmc_tag.specs.declared.event.Event.{Event}
 use Rattle.dmc_tag.specs.declared.reply.Reply.{Reply}
 use Rattle.dmc_tag.specs.declared.reply.Reply.TheVariants.{Registered, Updated, Tagged, Granted, Later, Nothing, Removed, Cleaned, Refused}
 use Rattle.dmc_ledger.specs.Accounts.{Account}
+use Rattle.dmc_book.specs.declared.counts.Grant.{Grant}
 use Rattle.dmc_book.specs.BookState.{WorkerSide}
 use Rattle.dmc_book.specs.PerCount.{WorkerCounts, for_each}
 
@@ -27,7 +28,7 @@ abbrev pub is_miss : {T : Type 0} → Reply T → Bool
 is_miss Registered = false
 is_miss Updated = false
 is_miss (Tagged tags) = false
-is_miss (Granted client token phase beyond) = false
+is_miss (Granted client token phase beyond cost) = false
 is_miss (Later m) = true
 is_miss Nothing = true
 is_miss (Removed count) = false
@@ -38,19 +39,19 @@ abbrev pub is_tagged : {T : Type 0} → Reply T → Bool
 is_tagged Registered = false
 is_tagged Updated = false
 is_tagged (Tagged tags) = true
-is_tagged (Granted client token phase beyond) = false
+is_tagged (Granted client token phase beyond cost) = false
 is_tagged (Later m) = false
 is_tagged Nothing = false
 is_tagged (Removed count) = false
 is_tagged (Cleaned idled erased) = false
 is_tagged (Refused refusal) = false
 
--- who is granted, and in which phase (a beyond grant is one of the weight phase)
-abbrev pub grant_in : {T : Type 0} → Reply T → Option (ClientId × PhaseType)
+-- who is granted, in which phase (a beyond grant is one of the weight phase), and what that costs
+abbrev pub grant_in : {T : Type 0} → Reply T → Option Grant
 grant_in Registered = None
 grant_in Updated = None
 grant_in (Tagged tags) = None
-grant_in (Granted client token phase beyond) = Some (client, phase)
+grant_in (Granted client token phase beyond cost) = Some (record { client = client; phase = phase; cost = cost })
 grant_in (Later m) = None
 grant_in Nothing = None
 grant_in (Removed count) = None
@@ -62,12 +63,24 @@ abbrev pub token_granted : {T : Type 0} → Reply T → ℕ
 token_granted Registered = 0
 token_granted Updated = 0
 token_granted (Tagged tags) = 0
-token_granted (Granted client token phase beyond) = token.0
+token_granted (Granted client token phase beyond cost) = token.0
 token_granted (Later m) = 0
 token_granted Nothing = 0
 token_granted (Removed count) = 0
 token_granted (Cleaned idled erased) = 0
 token_granted (Refused refusal) = 0
+
+-- what a grant costs, else 0
+abbrev pub cost_granted : {T : Type 0} → Reply T → ℕ
+cost_granted Registered = 0
+cost_granted Updated = 0
+cost_granted (Tagged tags) = 0
+cost_granted (Granted client token phase beyond cost) = cost
+cost_granted (Later m) = 0
+cost_granted Nothing = 0
+cost_granted (Removed count) = 0
+cost_granted (Cleaned idled erased) = 0
+cost_granted (Refused refusal) = 0
 
 -- ---- commands
 
@@ -78,6 +91,7 @@ token_of (Update client info at) = 0
 token_of (Add client token params at) = token.0
 token_of (Pull at) = 0
 token_of (Remove client) = 0
+token_of (Cancel client token counting) = 0
 token_of (Clean at) = 0
 
 -- whose request an add brings, and what its stamp carries
@@ -87,9 +101,11 @@ stamp_in (Update client info at) = None
 stamp_in (Add client token params at) = Some (client, params)
 stamp_in (Pull at) = None
 stamp_in (Remove client) = None
+stamp_in (Cancel client token counting) = None
 stamp_in (Clean at) = None
 
--- ---- what an event adds to the counts of its worker: calls, misses, tokens of accepted adds, grants, tokens of grants
+-- ---- what an event adds to the counts of its worker: calls, misses, tokens of accepted adds, grants, tokens of grants, and what
+-- these cost
 
 abbrev pub numbers_of : {T : Type 0} → Command → Reply T → WorkerCounts ℕ
 numbers_of command reply = record {
@@ -98,6 +114,7 @@ numbers_of command reply = record {
   tokens = if is_tagged reply then token_of command else 0;
   grants = one_if (is_some (grant_in reply));
   granted = token_granted reply;
+  cost = cost_granted reply;
 }
 
 abbrev pub no_numbers : WorkerCounts ℕ
@@ -121,6 +138,7 @@ counted_books w = record {
   tokens = record { adds = λ e. (worker_adds w.worker e).tokens; from = w.renewed; book = w.books.tokens };
   grants = record { adds = λ e. (worker_adds w.worker e).grants; from = 0; book = w.books.grants };
   granted = record { adds = λ e. (worker_adds w.worker e).granted; from = w.renewed; book = w.books.granted };
+  cost = record { adds = λ e. (worker_adds w.worker e).cost; from = 0; book = w.books.cost };
 }
 
 -- ---- what an event adds to the counts of a client
@@ -143,11 +161,19 @@ is_phase Reservation Priority = false
 is_phase Priority Reservation = false
 is_phase Priority Priority = true
 
-abbrev pub units_for : ℕ → PhaseType → Option (ClientId × PhaseType) → ℕ
-units_for client phase None = 0
-units_for client phase (Some grant) = one_if ((grant.0.0 == client) && is_phase phase grant.1)
+-- whether a grant is of this client, and in this phase
+abbrev pub is_grant_of : ℕ → PhaseType → Grant → Bool
+is_grant_of client phase grant = (grant.client.0 == client) && is_phase phase grant.phase
 
--- accepted adds, their deltas and rhos, and grants in a phase
+abbrev pub units_for : ℕ → PhaseType → Option Grant → ℕ
+units_for client phase None = 0
+units_for client phase (Some grant) = one_if (is_grant_of client phase grant)
+
+abbrev pub costs_for : ℕ → PhaseType → Option Grant → ℕ
+costs_for client phase None = 0
+costs_for client phase (Some grant) = if is_grant_of client phase grant then grant.cost else 0
+
+-- accepted adds, their deltas and rhos, and grants in a phase with their costs
 abbrev pub stamps_added : {T : Type 0} → ℕ → Event T → ℕ
 stamps_added client e = stamps_for client (accepted e)
 
@@ -160,13 +186,27 @@ rho_added client e = (counts_for client (accepted e)).rho
 abbrev pub grants_added : {T : Type 0} → ℕ → PhaseType → Event T → ℕ
 grants_added client phase e = units_for client phase (grant_in e.reply)
 
--- grants in a phase, of any client
-abbrev pub units_in : PhaseType → Option (ClientId × PhaseType) → ℕ
+abbrev pub costs_added : {T : Type 0} → ℕ → PhaseType → Event T → ℕ
+costs_added client phase e = costs_for client phase (grant_in e.reply)
+
+-- grants in a phase, of any client, and their costs
+abbrev pub units_in : PhaseType → Option Grant → ℕ
 units_in phase None = 0
-units_in phase (Some grant) = one_if (is_phase phase grant.1)
+units_in phase (Some grant) = one_if (is_phase phase grant.phase)
+
+abbrev pub costs_in : PhaseType → Option Grant → ℕ
+costs_in phase None = 0
+costs_in phase (Some grant) = if is_phase phase grant.phase then grant.cost else 0
 
 abbrev pub phase_grants : {T : Type 0} → PhaseType → Event T → ℕ
 phase_grants phase e = units_in phase (grant_in e.reply)
+
+abbrev pub phase_costs : {T : Type 0} → PhaseType → Event T → ℕ
+phase_costs phase e = costs_in phase (grant_in e.reply)
+
+-- what a grant costs, of any client and in any phase
+abbrev pub grant_cost : {T : Type 0} → Event T → ℕ
+grant_cost e = cost_granted e.reply
 
 -- ---- the sums
 

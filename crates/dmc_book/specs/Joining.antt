@@ -2,7 +2,7 @@
 use Rattle.std.specs.Prelude.{◌≡◌, ℕ, ◌++◌, List, [], ◌∷◌, map, take, drop, length, slice_index_or, slice_set}
 use Rattle.dmc_types.specs.declared.ids.ClientId.{ClientId}
 use Rattle.dmc_ledger.specs.Accounts.{Account, total_of}
-use Rattle.dmc_ledger.specs.Bundles.{ClientSide, GrantHoldings}
+use Rattle.dmc_ledger.specs.Bundles.{ClientSide, PhaseAccounts, GrantHoldings}
 use Rattle.dmc_book.specs.BookState.{BookState, PassState, WorkerSide, no_worker}
 use Rattle.dmc_book.specs.Opening.{desk_with_tills, new_unit}
 
@@ -13,14 +13,18 @@ pub record IsUnissued (book : Account) : Type 0 where
   pub nothing : total_of book ≡ 0
   pub one_till : book.open_tills ≡ 1
 
+pub record IsPhaseUnissued (books : PhaseAccounts) : Type 0 where
+  pub grants : IsUnissued books.grants
+  pub cost : IsUnissued books.cost
+
 -- A desk of this server that was not used: it took nothing in and gave nothing out. `open_pair` gives such ones.
 pub record IsUnused (server : ℕ) (d : ClientSide) : Type 0 where
   pub its_server : d.server ≡ server
   pub stamps : d.held.stamps.amount ≡ 0
   pub delta : d.held.delta.amount ≡ 0
   pub rho : d.held.rho.amount ≡ 0
-  pub reservation : IsUnissued d.books.reservation
-  pub priority : IsUnissued d.books.priority
+  pub reservation : IsPhaseUnissued d.books.reservation
+  pub priority : IsPhaseUnissued d.books.priority
 
 abbrev pub book_admitted : {T : Type 0} → ClientSide → BookState T → BookState T
 book_admitted d b = record b { desks = b.desks ++ d ∷ [] }

@@ -1,14 +1,18 @@
 -- Workers that leave.
 use Rattle.std.specs.Prelude.{◌≡◌, List, slice_index_or, slice_set}
 use Rattle.std.specs.List.{AllByRecursion}
-use Rattle.dmc_ledger.specs.Bundles.{ClientSide, GrantHoldings}
+use Rattle.dmc_ledger.specs.Bundles.{ClientSide, PhaseHoldings, GrantHoldings}
 use Rattle.dmc_book.specs.BookState.{PassState, WorkerSide, no_worker}
 use Rattle.dmc_book.specs.Settling.{AreUnitsTakenIn, IsOwn, closed_worker}
 
 -- no grant of a client is with the worker
+pub record HoldsNoGrant (tills : PhaseHoldings) : Type 0 where
+  pub grants : tills.grants.amount ≡ 0
+  pub cost : tills.cost.amount ≡ 0
+
 pub record HoldsNothing (units : GrantHoldings) : Type 0 where
-  pub reservation : units.reservation.amount ≡ 0
-  pub priority : units.priority.amount ≡ 0
+  pub reservation : HoldsNoGrant units.reservation
+  pub priority : HoldsNoGrant units.priority
 
 -- the pass is of a worker here, with tills of each desk that the worker reaches, and each of its grants was responded
 pub record MayLeave (workers : List WorkerSide) (desks : List ClientSide) (p : PassState) : Type 0 where

@@ -1,12 +1,12 @@
 -- A queue's book that is made.
-use Rattle.std.specs.Prelude.{◌≡◌, ℕ, ◌+◌, ◌*◌, ◌<◌, ◌≤◌, ◌==◌, false, List, [], ◌∷◌, map, length, ⊤}
+use Rattle.std.specs.Prelude.{◌≡◌, ℕ, ◌+◌, ◌*◌, ◌<◌, ◌≤◌, ◌==◌, false, List, [], ◌∷◌, map, length, None, ⊤}
 use Rattle.std.specs.List.{AllByRecursion}
 use Rattle.dmc_types.specs.Limits.{max_clients, max_events}
 use Rattle.dmc_types.specs.Values.{Setting}
 use Rattle.dmc_types.specs.declared.ids.ClientId.{ClientId}
 use Rattle.dmc_types.specs.declared.ids.WorkerId.{WorkerId}
 use Rattle.dmc_ledger.specs.Accounts.{Account, new_book, new_till}
-use Rattle.dmc_ledger.specs.Bundles.{ClientSide, GrantHoldings, new_client_side}
+use Rattle.dmc_ledger.specs.Bundles.{ClientSide, PhaseAccounts, PhaseHoldings, GrantHoldings, new_client_side}
 use Rattle.dmc_book.specs.BookState.{AccountsState, BookState, PassState, WorkerSide, state_of}
 use Rattle.dmc_book.specs.PerCount.{books_per_worker, map_counts, numbers_from}
 
@@ -44,14 +44,20 @@ new_workers reach n (w ∷ ws) = new_worker reach n w ∷ new_workers reach (n +
 abbrev pub with_tills : ℕ → Account → Account
 with_tills k book = record book { open_tills = book.open_tills + k }
 
+abbrev pub phase_with_tills : ℕ → PhaseAccounts → PhaseAccounts
+phase_with_tills k books = record { grants = with_tills k books.grants; cost = with_tills k books.cost }
+
 abbrev pub desk_with_tills : ℕ → ClientSide → ClientSide
 desk_with_tills k d = record d {
-  books = record { reservation = with_tills k d.books.reservation; priority = with_tills k d.books.priority };
+  books = record { reservation = phase_with_tills k d.books.reservation; priority = phase_with_tills k d.books.priority };
 }
 
--- a new till of each phase of a desk
+-- new tills of each phase of a desk
+abbrev pub new_phase_tills : PhaseAccounts → PhaseHoldings
+new_phase_tills books = record { grants = new_till books.grants.number; cost = new_till books.cost.number }
+
 abbrev pub new_unit : ClientSide → GrantHoldings
-new_unit d = record { reservation = new_till d.books.reservation.number; priority = new_till d.books.priority.number }
+new_unit d = record { reservation = new_phase_tills d.books.reservation; priority = new_phase_tills d.books.priority }
 
 -- the pass of a worker: it holds nothing
 abbrev pub new_pass : ℕ → ℕ → List ClientId → List ClientSide → WorkerId → PassState
@@ -61,6 +67,7 @@ new_pass place n clients desks w = record {
   tills = map_counts new_till (numbers_from n);
   clients = clients;
   units = map new_unit desks;
+  granted = None;
 }
 
 -- the passes of the workers, in their order

@@ -1,11 +1,13 @@
 -- A queue's book that releases events.
 use Rattle.std.specs.Prelude.{ℕ, ◌+◌, ◌-◌, ◌<◌, ◌≤◌, ◌^◌, List, length}
 use Rattle.std.specs.List.{AllByRecursion}
+use Rattle.dmc_tag.specs.declared.event.Event.{Event}
 use Rattle.dmc_shared.specs.Segmented.{max_released}
 use Rattle.dmc_queue_history.specs.Segmented.{SegmentState}
 use Rattle.dmc_ledger.specs.Accounts.{Account, total_of}
 use Rattle.dmc_book.specs.PerCount.{WorkerCounts}
 use Rattle.dmc_book.specs.BookState.{BookState, WorkerSide}
+use Rattle.dmc_book.specs.Counts.{count, grant_cost}
 use Rattle.dmc_book.specs.Moves.{IsOpen}
 
 -- the sums of tokens leave room for the events that may be kept next
@@ -13,10 +15,11 @@ pub record AreTokensLow (books : WorkerCounts Account) : Type 0 where
   pub tokens : total_of books.tokens ≤ 2 ^ 62
   pub granted : total_of books.granted ≤ 2 ^ 62
 
--- A segment is released: not too many events were recorded, the tokens of each worker that was not dismissed are low, and
--- nothing is settled.
-pub record MayRotate {E : Type 0} (history : List E) (first most : ℕ) (workers : List WorkerSide) : Type 0 where
+-- A segment is released: not too many events were recorded, the tokens of each worker that was not dismissed are low, all grants
+-- cost at most 2^62 together, and nothing is settled.
+pub record MayRotate {T : Type 0} (history : List (Event T)) (first most : ℕ) (workers : List WorkerSide) : Type 0 where
   pub long : length history ≤ max_released
+  pub cheap : count grant_cost history ≤ 2 ^ 62
   pub low : AllByRecursion (λ w. IsOpen w → AreTokensLow w.books) workers
   pub goes_on : first < most
 

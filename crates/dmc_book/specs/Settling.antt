@@ -5,10 +5,11 @@ use Rattle.dmc_types.specs.declared.config.PhaseType.{PhaseType}
 use Rattle.dmc_types.specs.declared.config.PhaseType.TheVariants.{Reservation, Priority}
 use Rattle.dmc_tag.specs.declared.event.Event.{Event}
 use Rattle.dmc_ledger.specs.Accounts.{Account, after_closing, total_of}
-use Rattle.dmc_ledger.specs.Bundles.{ClientSide, GrantAccounts, GrantHoldings}
-use Rattle.dmc_ledger.specs.Moves.{till_in}
+use Rattle.dmc_ledger.specs.Bundles.{ClientSide, PhaseAccounts, PhaseHoldings, GrantAccounts, GrantHoldings}
+use Rattle.dmc_ledger.specs.Moves.{ArePhaseOf, tills_in}
+use Rattle.dmc_book.specs.declared.settled.Amounts.{Amounts}
 use Rattle.dmc_book.specs.BookState.{BookState, PassState, WorkerSide, no_desk, no_unit, no_worker}
-use Rattle.dmc_book.specs.Counts.{CountedBook, count, counted_books, one_if, stamps_added, delta_added, rho_added, grants_added, phase_grants}
+use Rattle.dmc_book.specs.Counts.{CountedBook, count, counted_books, one_if, stamps_added, delta_added, rho_added, grants_added, costs_added, phase_grants, phase_costs}
 use Rattle.dmc_book.specs.Moves.{IsEnrolled}
 use Rattle.dmc_book.specs.PerCount.{EachCount, map_counts}
 
@@ -16,8 +17,8 @@ use Rattle.dmc_book.specs.PerCount.{EachCount, map_counts}
 
 -- the tills are of these grant books
 pub record AreUnitsOf (tills : GrantHoldings) (books : GrantAccounts) : Type 0 where
-  pub reservation : tills.reservation.number ≡ books.reservation.number
-  pub priority : tills.priority.number ≡ books.priority.number
+  pub reservation : ArePhaseOf tills.reservation books.reservation
+  pub priority : ArePhaseOf tills.priority books.priority
 
 -- tills of the first desks' grant books, in the order of the desks
 pub record AreDeskUnits (desks : List ClientSide) (units : List GrantHoldings) : Type 0 where
@@ -42,11 +43,12 @@ pub record AreOwn (workers : List WorkerSide) (desks : List ClientSide) (passes 
 
 -- ---- the grants
 
--- What the desks' clients were granted in a phase is together all that was granted in it: each grant is of a client that has
--- a desk, and no two desks are of one client.
+-- What the desks' clients were granted in a phase is together all that was granted in it, in number and in cost: each grant is
+-- of a client that has a desk, and no two desks are of one client.
 abbrev pub AreGrantsOfDesks : {T : Type 0} → List (Event T) → List ClientSide → Type 0
 AreGrantsOfDesks history desks = (phase : PhaseType) →
-    sum_by (λ d. count (grants_added d.client phase) history) desks ≡ count (phase_grants phase) history
+    (sum_by (λ d. count (grants_added d.client phase) history) desks ≡ count (phase_grants phase) history)
+    × (sum_by (λ d. count (costs_added d.client phase) history) desks ≡ count (phase_costs phase) history)
 
 -- a worker whose pass is gathered, and reaches no desk
 abbrev pub closed_worker : WorkerSide → WorkerSide
@@ -68,29 +70,48 @@ IsSettledWorker history w = EachCount (HasGathered history) (counted_books w)
 
 -- ---- the desks
 
--- the units of a phase that are left in the passes at the place of a desk
-abbrev pub left_in : PhaseType → ℕ → List PassState → ℕ
-left_in phase k [] = 0
-left_in phase k (p ∷ ps) = (till_in phase (slice_index_or p.units k no_unit)).amount + left_in phase k ps
+-- grants of a phase: how many, and what they cost
+abbrev pub no_amounts : Amounts
+no_amounts = record { grants = 0; cost = 0 }
 
--- the book gathered this number of tills, which held this number of units
-pub record IsTakenIn (tills units : ℕ) (old new : Account) : Type 0 where
+abbrev pub amounts_in : PhaseHoldings → Amounts
+amounts_in tills = record { grants = tills.grants.amount; cost = tills.cost.amount }
+
+-- what the books of a phase gathered
+abbrev pub gathered_in : PhaseAccounts → Amounts
+gathered_in books = record { grants = books.grants.gathered; cost = books.cost.gathered }
+
+-- what is left of a phase in the passes at the place of a desk
+abbrev pub left_in : PhaseType → ℕ → List PassState → Amounts
+left_in phase k [] = no_amounts
+left_in phase k (p ∷ ps) = record {
+  grants = (tills_in phase (slice_index_or p.units k no_unit)).grants.amount + (left_in phase k ps).grants;
+  cost = (tills_in phase (slice_index_or p.units k no_unit)).cost.amount + (left_in phase k ps).cost;
+}
+
+-- the book gathered this number of tills, which held this amount
+pub record IsTakenIn (tills amount : ℕ) (old new : Account) : Type 0 where
   pub number : new.number ≡ old.number
-  pub gathered : new.gathered ≡ old.gathered + units
+  pub gathered : new.gathered ≡ old.gathered + amount
   pub total : total_of new ≡ total_of old
   pub open_tills : new.open_tills + tills ≡ old.open_tills
 
+-- both books of a phase did
+pub record IsPhaseTakenIn (tills : ℕ) (amounts : Amounts) (old new : PhaseAccounts) : Type 0 where
+  pub grants : IsTakenIn tills amounts.grants old.grants new.grants
+  pub cost : IsTakenIn tills amounts.cost old.cost new.cost
+
 -- the desk gathered tills of each phase, and is else as it was
-pub record IsDeskTakenIn (tills reservation priority : ℕ) (old new : ClientSide) : Type 0 where
+pub record IsDeskTakenIn (tills : ℕ) (reservation priority : Amounts) (old new : ClientSide) : Type 0 where
   pub its : new ≡ record old { books = new.books }
-  pub reservations : IsTakenIn tills reservation old.books.reservation new.books.reservation
-  pub priorities : IsTakenIn tills priority old.books.priority new.books.priority
+  pub reservations : IsPhaseTakenIn tills reservation old.books.reservation new.books.reservation
+  pub priorities : IsPhaseTakenIn tills priority old.books.priority new.books.priority
 
 -- each desk gathered its tills of these, if there are some
 pub record AreUnitsTakenIn (units : List GrantHoldings) (old new : List ClientSide) : Type 0 where
   pub as_many : length new ≡ length old
   pub each : (k : ℕ) → k < length old
-      → IsDeskTakenIn (one_if (nat_lt k (length units))) (slice_index_or units k no_unit).reservation.amount (slice_index_or units k no_unit).priority.amount
+      → IsDeskTakenIn (one_if (nat_lt k (length units))) (amounts_in (slice_index_or units k no_unit).reservation) (amounts_in (slice_index_or units k no_unit).priority)
       (slice_index_or old k no_desk) (slice_index_or new k no_desk)
 
 -- the grant book totals what it did; what the passes held is gathered, and the held till of its pair alone is open
@@ -100,14 +121,19 @@ pub record IsSettledBook {T : Type 0} (adds : Event T → ℕ) (history : List (
   pub gathered : new.gathered ≡ held
   pub open_tills : new.open_tills ≡ 1
 
+-- both grant books of a client's phase are
+pub record IsSettledPhase {T : Type 0} (client : ℕ) (phase : PhaseType) (history : List (Event T)) (held : Amounts) (old new : PhaseAccounts) : Type 0 where
+  pub grants : IsSettledBook (grants_added client phase) history held.grants old.grants new.grants
+  pub cost : IsSettledBook (costs_added client phase) history held.cost old.cost new.cost
+
 -- the desk at a place, which gathered its tills of these passes, and is else as it was
 pub record IsSettledDesk {T : Type 0} (history : List (Event T)) (passes : List PassState) (k : ℕ) (old new : ClientSide) : Type 0 where
   pub its : new ≡ record old { books = new.books }
   pub stamps : new.held.stamps.amount ≡ count (stamps_added old.client) history
   pub delta : new.held.delta.amount ≡ count (delta_added old.client) history
   pub rho : new.held.rho.amount ≡ count (rho_added old.client) history
-  pub reservations : IsSettledBook (grants_added old.client Reservation) history (left_in Reservation k passes) old.books.reservation new.books.reservation
-  pub priorities : IsSettledBook (grants_added old.client Priority) history (left_in Priority k passes) old.books.priority new.books.priority
+  pub reservations : IsSettledPhase old.client Reservation history (left_in Reservation k passes) old.books.reservation new.books.reservation
+  pub priorities : IsSettledPhase old.client Priority history (left_in Priority k passes) old.books.priority new.books.priority
 
 pub record AreSettledDesks {T : Type 0} (history : List (Event T)) (passes : List PassState) (old new : List ClientSide) : Type 0 where
   pub as_many : length new ≡ length old

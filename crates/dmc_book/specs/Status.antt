@@ -10,7 +10,7 @@ use Rattle.dmc_book.specs.PerCount.{WorkerCounts, EachPair}
 
 -- a worker's counts in a status
 abbrev pub counts_in : Status → WorkerCounts ℕ
-counts_in s = record { calls = s.calls; misses = s.misses; tokens = s.tokens; grants = s.grants; granted = s.granted }
+counts_in s = record { calls = s.calls; misses = s.misses; tokens = s.tokens; grants = s.grants; granted = s.granted; cost = s.cost }
 
 -- the tills hold these numbers
 abbrev pub AreHeld : WorkerCounts ℕ → WorkerCounts Holding → Type 0

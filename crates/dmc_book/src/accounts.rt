@@ -41,6 +41,9 @@ use dmc_types::moment::Moment;
 use indexmap::IndexSet;
 use std::marker::Model;
 
+/// The most that all grants may cost together when events are released.
+const MAX_COST: u64 = 1 << 62;
+
 /// The history of a server's queue, the books of each enrolled worker, and a desk for each client.
 ///
 /// What holds of all accounts is the invariant of the type: the books of each worker total its counts over the history, and
@@ -52,6 +55,8 @@ pub(crate) struct Accounts<T: Tag, S: Setup> {
     pub(crate) workers: Vec<Seat<S>>,
     pub(crate) clients: IndexSet<ClientId>,
     pub(crate) desks: Vec<ClientDesk<S>>,
+    // What all grants of the history cost together.
+    pub(crate) cost: u64,
 }
 
 impl<T: Tag, S: Setup> Model for Accounts<T, S> {
@@ -59,13 +64,15 @@ impl<T: Tag, S: Setup> Model for Accounts<T, S> {
     ghost use Rattle.dmc_ledger.specs.Bundles.{client_side};
     ghost use Rattle.dmc_book.specs.BookState.{AccountsState, accounts_of, worker_side};
     ghost use Rattle.dmc_book.specs.Consistent.{AreConsistent};
+    ghost use Rattle.dmc_book.specs.Counts.{count, grant_cost};
 
     ghost Value = { AccountsState T };
 
     ghost view = { λ a. accounts_of a.server.0 a.history (map worker_side a.workers.items) (map client_side a.desks.items) };
 
     ghost invariant = { λ a. AreConsistent (accounts_of a.server.0 a.history (map worker_side a.workers.items) (map client_side a.desks.items))
-        × (a.clients.keys ≡ map (λ d. d.client) a.desks.items) };
+        × (a.clients.keys ≡ map (λ d. d.client) a.desks.items)
+        × (a.cost ≡ count grant_cost a.history.events) };
 }
 
 impl<T: Tag, S: Setup> Accounts<T, S> {
@@ -140,7 +147,7 @@ impl<T: Tag, S: Setup> Accounts<T, S> {
     }
 
     /// Records the queue's reply to a worker's command, in the reserved place: it counts the event in the worker's books and
-    /// tills, and issues the unit of a grant.
+    /// tills, and issues a grant, whose unit the pass has then.
     #[inline(always)]
     pub(crate) fn record(&mut self, pass: &mut WorkerPass<S>, command: Command, reply: Reply<T>)
         requires room { 0 < self.old.room }
@@ -149,7 +156,7 @@ impl<T: Tag, S: Setup> Accounts<T, S> {
         requires no_stamp { counts.accepted (event_of (pass_state pass.old).worker command reply) ≡ None }
         requires unit { is_allowed (takes self.old.desks (pass_state pass.old).clients (pass_state pass.old).units) reply ≡ true }
         ensures accounts { self.new ≡ accounts_after (event_of (pass_state pass.old).worker command reply) self.old }
-        ensures pass { pass_state pass.new ≡ pass_after command reply (pass_state pass.old) }
+        ensures pass { pass_state pass.new ≡ pass_after self.old.server command reply (pass_state pass.old) }
     {
         let event = Event {
             worker: pass.worker,
@@ -157,13 +164,18 @@ impl<T: Tag, S: Setup> Accounts<T, S> {
             reply,
         };
         count(&mut self.workers, pass.place, &mut pass.tills, &event);
-        hand_out(
+        let unit = hand_out(
+            self.server,
             &pass.clients,
             pass.recent.get(),
             &mut self.desks,
             &mut pass.units,
             &event,
         );
+        if let Some(unit) = unit {
+            self.cost += u64::from(unit.cost().units());
+            pass.granted = Some(unit);
+        }
         self.history.push_reserved(event);
     }
 
@@ -185,7 +197,7 @@ impl<T: Tag, S: Setup> Accounts<T, S> {
         requires found { FindsDesk self.old.server self.old.workers self.old.desks (pass_state pass.old) stamp.now (stamp_holdings tills.old) (Some desk) }
         requires covers { Covers (stamp_holdings tills.old) stamp.now.params }
         ensures accounts { self.new ≡ accounts_after (event_of (pass_state pass.old).worker (commands.Add (record { 0 = stamp.now.client }) token stamp.now.params at) (replies.Tagged tags)) self.old }
-        ensures pass { pass_state pass.new ≡ pass_after (commands.Add (record { 0 = stamp.now.client }) token stamp.now.params at) (replies.Tagged tags) (pass_state pass.old) }
+        ensures pass { pass_state pass.new ≡ pass_after self.old.server (commands.Add (record { 0 = stamp.now.client }) token stamp.now.params at) (replies.Tagged tags) (pass_state pass.old) }
         ensures tills { stamp_holdings tills.new ≡ tills_after_submit stamp.now.params (stamp_holdings tills.old) }
     {
         let (client, params) = (stamp.client(), stamp.params());
@@ -224,7 +236,8 @@ impl<T: Tag, S: Setup> Accounts<T, S> {
     }
 
     /// Releases the events that are kept, of a queue of this configuration. `None`, and nothing changes, if more than 2^62
-    /// events were recorded, a sum of a worker's tokens is past 2^62, or the accounts are settled.
+    /// events were recorded, a sum of a worker's tokens is past 2^62, all grants cost more than 2^62 together, or the accounts are
+    /// settled.
     pub(crate) fn rotate(&mut self, config: QueueConfig) -> Option<Segment<T, S>>
         requires { replays T.ops config self.old.history }
         ensures segment { IfSome result (λ segment.
@@ -234,7 +247,7 @@ impl<T: Tag, S: Setup> Accounts<T, S> {
         ensures within { OnSome result (self.old.first ≤ length self.old.history) }
         ensures kept { IfNone result (self.new ≡ self.old) }
     {
-        if !are_low(&self.workers) {
+        if self.cost > MAX_COST || !are_low(&self.workers) {
             return None;
         }
         let part = self.history.rotate()?;

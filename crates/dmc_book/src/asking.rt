@@ -93,10 +93,10 @@ pub(crate) fn ask_to_pull<T: Tag, I: Indexes<T>, S: Setup>(
 }
 
 /// What a pull returns, as a reply.
-pub(crate) fn reply_of<T>(answer: Result<Pulled, RunOrRange>) -> Result<Reply<T>, RunFault>
-    ensures { result ≡ asked answer }
+pub(crate) fn reply_of<T>(answer: &Result<Pulled, RunOrRange>) -> Result<Reply<T>, RunFault>
+    ensures { result ≡ asked answer.now }
 {
-    match answer {
+    match *answer {
         Ok(pulled) => Ok(answers::pulled(Ok(pulled))),
         Err(RunOrRange::Range) => Ok(Reply::Refused(Refusal::Range)),
         Err(RunOrRange::Run(fault)) => Err(fault),
@@ -114,7 +114,7 @@ pub(crate) fn ask<T: Tag, I: Indexes<T>, S: Setup>(
     ensures { Asks T.ops (length (pass_state pass.now).units < length accounts.now.desks) (takes accounts.now.desks (pass_state pass.now).clients (pass_state pass.now).units) (state_of queue.old) (state_of queue.new) command.now result }
 {
     if let Command::Pull { at } = *command {
-        return reply_of(ask_to_pull(queue, accounts, pass, at));
+        return reply_of(&ask_to_pull(queue, accounts, pass, at));
     }
     match queue.apply(command) {
         Ok(reply) => Ok(reply),

@@ -145,6 +145,7 @@ impl<T: Tag, I: Indexes<T>, S: Setup> QueueBook<T, I, S> {
             tokens: pass.tills.tokens.amount(),
             grants: pass.tills.grants.amount(),
             granted: pass.tills.granted.amount(),
+            cost: pass.tills.cost.amount(),
             clients: self.queue.0.client_count(),
             requests: self.queue.0.request_count(),
             events: self.accounts.event_count(),
@@ -153,8 +154,8 @@ impl<T: Tag, I: Indexes<T>, S: Setup> QueueBook<T, I, S> {
     }
 
     /// Passes a command that is not an Add to the queue, and records its reply, refusals included. It adds
-    /// one to the worker's calls, one to its misses if the reply is Later, Nothing or Refused, and of a grant one unit of
-    /// its client and phase to the pass.
+    /// one to the worker's calls, one to its misses if the reply is Later, Nothing or Refused, and a grant with its cost to the
+    /// pass's tills of its client and phase. The pass has the grant's unit then: see `WorkerPass::take_unit`.
     ///
     /// Refused, with nothing recorded: `Stranger`, `Behind`, `NoDesk`, `HistoryFull`, `Memory`. A pull that would grant a request
     /// whose unit the pass has no till for is `Behind` if desks came after the pass, else `Stranger`; that is seen once the
@@ -275,7 +276,7 @@ impl<T: Tag, I: Indexes<T>, S: Setup> QueueBook<T, I, S> {
     /// not with that of events. It does not allocate. The book goes on with none of them kept.
     ///
     /// `None`, and nothing changes, exactly if more than 2^62 events were recorded, a worker's sum of tokens (added, or
-    /// granted) is past 2^62, or the book is settled.
+    /// granted) is past 2^62, all grants cost more than 2^62 together, or the book is settled.
     pub fn rotate(&mut self) -> Option<Segment<T, S>>
         ensures segment { IfSome result (λ segment. segment ≡ segment_of self.old) }
         ensures some { IsSome result ↔ MayRotate self.old.history self.old.first self.old.most self.old.workers }

@@ -7,6 +7,7 @@ use crate::per_count::WorkerCounts;
 use dmc_tag::reply::Reply;
 use dmc_types::command::Command;
 use dmc_types::config::PhaseType;
+use dmc_types::cost::Cost;
 use dmc_types::ids::{ClientId, Token};
 
 /// The token of an add that was accepted, else 0.
@@ -43,13 +44,38 @@ fn token_granted<T: Copy>(reply: &Reply<T>) -> u32
             token: Token(token),
             phase: _,
             beyond: _,
+            cost: _,
         } => token,
         _ => 0,
     }
 }
 
-/// Who is granted, and in which phase.
-pub(crate) fn grant_in<T: Copy>(reply: &Reply<T>) -> Option<(ClientId, PhaseType)>
+/// What a grant costs, else 0.
+fn cost_granted<T: Copy>(reply: &Reply<T>) -> u32
+    ensures { result ≡ counts.cost_granted reply.now }
+{
+    match *reply {
+        Reply::Granted {
+            client: _,
+            token: _,
+            phase: _,
+            beyond: _,
+            cost,
+        } => cost.units(),
+        _ => 0,
+    }
+}
+
+/// Who is granted, in which phase, and what that costs.
+#[derive(Clone, Copy)]
+pub(crate) struct Grant {
+    pub(crate) client: ClientId,
+    pub(crate) phase: PhaseType,
+    pub(crate) cost: Cost,
+}
+
+/// The grant of a reply.
+pub(crate) fn grant_in<T: Copy>(reply: &Reply<T>) -> Option<Grant>
     ensures { result ≡ counts.grant_in reply.now }
 {
     match *reply {
@@ -58,7 +84,12 @@ pub(crate) fn grant_in<T: Copy>(reply: &Reply<T>) -> Option<(ClientId, PhaseType
             token: _,
             phase,
             beyond: _,
-        } => Some((client, phase)),
+            cost,
+        } => Some(Grant {
+            client,
+            phase,
+            cost,
+        }),
         _ => None,
     }
 }
@@ -75,5 +106,6 @@ pub(crate) fn numbers_of<T: Copy>(command: &Command, reply: &Reply<T>) -> Worker
         tokens: token_added(command, reply),
         grants: u32::from(grant_in(reply).is_some()),
         granted: token_granted(reply),
+        cost: cost_granted(reply),
     }
 }

@@ -1,39 +1,41 @@
 //! The clients' desks.
-ghost use Rattle.std.specs.Prelude.{◌≡◌, ◌==◌, ◌≤◌, ◌<◌, ◌^◌, ◌↔◌, length, map, true, None, Some, IfSome, IsSome, IsTrue, slice_index_or};
+ghost use Rattle.std.specs.Prelude.{◌≡◌, ◌==◌, ◌≤◌, ◌<◌, ◌^◌, ◌↔◌, length, map, true, None, Some, IfSome, IsSome, IsTrue, option_map, slice_index_or};
 ghost use Rattle.std.specs.List.{AllByRecursion};
 ghost use Rattle.dmc_ledger.specs.Accounts.{total_of};
-ghost use Rattle.dmc_ledger.specs.Bundles.{Covers, client_side, grant_accounts, grant_holdings, stamp_holdings};
-ghost use Rattle.dmc_ledger.specs.Moves.{book_in, till_in, tills_after_response, tills_after_stamp, tills_after_submit};
-ghost use Rattle.dmc_ledger.specs.internal.Moves.{books_after_grant};
+ghost use Rattle.dmc_ledger.specs.Bundles.{Covers, HoldsGrant, client_side, grant_accounts, grant_holdings, phase_accounts, phase_holdings, stamp_holdings};
+ghost use Rattle.dmc_ledger.specs.Moves.{ArePhaseOf, books_in, tills_in, tills_after_response, tills_after_stamp, tills_after_submit, with_grant};
+ghost use Rattle.dmc_ledger.specs.internal.Moves.{books_after_grant, phase_after_grant};
 ghost use Rattle.dmc_pull.specs.Allowed.{is_allowed};
 ghost use Rattle.dmc_book.specs.Calls.{AreAlike, IsForDesk};
 ghost use Rattle.dmc_book.specs.Consistent.{AreClientsApart};
-ghost use Rattle.dmc_book.specs.internal.Consistent.{AreGrantsWithin, max_before};
+ghost use Rattle.dmc_book.specs.internal.Consistent.{AreGrantsWithin, IsPhaseWithin, max_before};
 ghost use Rattle.dmc_book.specs.Counts as counts;
-ghost use Rattle.dmc_book.specs.Moves.{desk_after, takes, takes_at, desk_place, units_after, unit_at};
+ghost use Rattle.dmc_book.specs.Moves.{are_phase_of, desk_after, takes, takes_at, desk_place, units_after, unit_of};
 ghost use Rattle.dmc_book.specs.BookState.{no_desk, pass_state};
 
 use crate::accounts::Accounts;
-use crate::counts::grant_in;
+use crate::counts::{Grant, grant_in};
 use crate::names::{place_recent, place_with_hint};
 use crate::pass::WorkerPass;
 use crate::seat::credit;
-use dmc_ledger::bundle::{GrantBooks, GrantTills, StampTills};
+use dmc_ledger::bundle::{GrantBooks, GrantTills, PhaseBooks, PhaseTills, StampTills};
 use dmc_ledger::desk::ClientDesk;
 use dmc_ledger::setup::Setup;
 use dmc_ledger::stamp::Stamp;
 use dmc_ledger::till::shift_till;
+use dmc_ledger::unit::{Unit, make_unit};
 use dmc_pull::granting::GrantTest;
 use dmc_tag::event::Event;
 use dmc_tag::tag::Tag;
 use dmc_types::config::PhaseType;
+use dmc_types::cost::Cost;
 use dmc_types::ids::{ClientId, ServerId};
 use dmc_types::params::ReqParams;
 use indexmap::IndexSet;
 use std::cell::Cell;
 
-/// Whether a pass has a till for a grant: the client has a desk, the pass names the client at the same place, and the till of
-/// the phase there is of the desk's book.
+/// Whether a pass has tills for a grant: the client has a desk, the pass names the client at the same place, and the tills of
+/// the phase there are of the desk's books.
 #[derive(Drop)]
 pub(crate) struct UnitTest<'a, T: Tag, S: Setup> {
     pub(crate) accounts: &'a Accounts<T, S>,
@@ -57,7 +59,7 @@ impl<'a, T: Tag, S: Setup> GrantTest for UnitTest<'a, T, S> {
     }
 }
 
-/// Whether the till of the phase at a place is of the book of the desk there.
+/// Whether the tills of the phase at a place are of the books of the desk there.
 fn takes_unit<S: Setup>(
     desks: &[ClientDesk<S>],
     units: &[GrantTills<S>],
@@ -69,51 +71,79 @@ fn takes_unit<S: Setup>(
     let (Some(desk), Some(unit)) = (desks.get(place), units.get(place)) else {
         return false;
     };
-    unit_number(unit, phase) == grant_number(&desk.books, phase)
+    are_of_phase(tills_of(unit, phase), books_of(&desk.books, phase))
 }
 
-fn unit_number<S: Setup>(unit: &GrantTills<S>, phase: PhaseType) -> u32
-    ensures { result ≡ (till_in phase (grant_holdings unit.now)).number }
+/// The tills of a phase.
+fn tills_of<S: Setup>(unit: &GrantTills<S>, phase: PhaseType) -> &PhaseTills<S>
+    ensures { phase_holdings result.now ≡ tills_in phase (grant_holdings unit.now) }
 {
     match phase {
-        PhaseType::Reservation => unit.reservation.number(),
-        PhaseType::Priority => unit.priority.number(),
+        PhaseType::Reservation => &unit.reservation,
+        PhaseType::Priority => &unit.priority,
     }
 }
 
-fn grant_number<S: Setup>(books: &GrantBooks<S>, phase: PhaseType) -> u32
-    ensures { result ≡ (book_in phase (grant_accounts books.now)).number }
+/// The books of a phase.
+fn books_of<S: Setup>(books: &GrantBooks<S>, phase: PhaseType) -> &PhaseBooks<S>
+    ensures { phase_accounts result.now ≡ books_in phase (grant_accounts books.now) }
 {
     match phase {
-        PhaseType::Reservation => books.reservation.number(),
-        PhaseType::Priority => books.priority.number(),
+        PhaseType::Reservation => &books.reservation,
+        PhaseType::Priority => &books.priority,
     }
 }
 
-/// Issues a unit of a phase.
+/// Whether the tills are of these books.
+pub(crate) fn are_of_phase<S: Setup>(tills: &PhaseTills<S>, books: &PhaseBooks<S>) -> bool
+    ensures { result ≡ are_phase_of (phase_holdings tills.now) (phase_accounts books.now) }
+{
+    tills.grants.number() == books.grants.number() && tills.cost.number() == books.cost.number()
+}
+
+/// Issues a grant of a cost into the books of a phase, and into their tills.
 #[inline(always)]
-fn issue_unit<S: Setup>(books: &mut GrantBooks<S>, unit: &mut GrantTills<S>, phase: PhaseType)
-    requires its { (till_in phase (grant_holdings unit.old)).number ≡ (book_in phase (grant_accounts books.old)).number }
-    requires fits { total_of (book_in phase (grant_accounts books.old)) ≤ max_before }
-    ensures books { grant_accounts books.new ≡ books_after_grant phase (grant_accounts books.old) }
-    ensures unit { grant_holdings unit.new ≡ tills_after_response phase (grant_holdings unit.old) }
+fn issue_grant<S: Setup>(books: &mut PhaseBooks<S>, tills: &mut PhaseTills<S>, cost: Cost)
+    requires its { ArePhaseOf (phase_holdings tills.old) (phase_accounts books.old) }
+    requires fits { IsPhaseWithin max_before (phase_accounts books.old) }
+    ensures books { phase_accounts books.new ≡ phase_after_grant cost (phase_accounts books.old) }
+    ensures tills { phase_holdings tills.new ≡ with_grant cost (phase_holdings tills.old) }
+{
+    credit(&mut books.grants, &mut tills.grants, 1);
+    credit(&mut books.cost, &mut tills.cost, cost.units());
+}
+
+/// Issues a grant of a phase.
+#[inline(always)]
+fn issue_unit<S: Setup>(
+    books: &mut GrantBooks<S>,
+    unit: &mut GrantTills<S>,
+    phase: PhaseType,
+    cost: Cost,
+)
+    requires its { ArePhaseOf (tills_in phase (grant_holdings unit.old)) (books_in phase (grant_accounts books.old)) }
+    requires fits { IsPhaseWithin max_before (books_in phase (grant_accounts books.old)) }
+    ensures books { grant_accounts books.new ≡ books_after_grant phase cost (grant_accounts books.old) }
+    ensures unit { grant_holdings unit.new ≡ tills_after_response phase cost (grant_holdings unit.old) }
+    ensures holds { HoldsGrant (tills_in phase (grant_holdings unit.new)) cost }
 {
     match phase {
-        PhaseType::Reservation => credit(&mut books.reservation, &mut unit.reservation, 1),
-        PhaseType::Priority => credit(&mut books.priority, &mut unit.priority, 1),
+        PhaseType::Reservation => issue_grant(&mut books.reservation, &mut unit.reservation, cost),
+        PhaseType::Priority => issue_grant(&mut books.priority, &mut unit.priority, cost),
     }
 }
 
-/// Issues the unit of a grant at the desk of its client, and into the till if the pass names the client, who is looked for
-/// at the hint first.
+/// Issues a grant at the desk of its client, and into the tills if the pass names the client, who is looked for at the hint first:
+/// the unit of the grant, which is of this server.
 #[inline(always)]
 pub(crate) fn hand_out<T: Copy, S: Setup>(
+    server: ServerId,
     names: &IndexSet<ClientId>,
     hint: usize,
     desks: &mut Vec<ClientDesk<S>>,
     units: &mut Vec<GrantTills<S>>,
     event: &Event<T>,
-)
+) -> Option<Unit>
     requires no_stamp { counts.accepted event.now ≡ None }
     requires its { is_allowed (takes (map client_side desks.old.items) names.now.keys (map grant_holdings units.old.items)) event.now.reply ≡ true }
     requires fits { AllByRecursion (λ d. AreGrantsWithin max_before d.books) (map client_side desks.old.items) }
@@ -121,14 +151,19 @@ pub(crate) fn hand_out<T: Copy, S: Setup>(
     ensures desks { map client_side desks.new.items ≡ map (desk_after event.now) (map client_side desks.old.items) }
     ensures names { map (λ d. d.client) desks.new.items ≡ map (λ d. d.client) desks.old.items }
     ensures units { map grant_holdings units.new.items ≡ units_after names.now.keys (counts.grant_in event.now.reply) (map grant_holdings units.old.items) }
+    ensures unit { result ≡ option_map (unit_of server.0) (counts.grant_in event.now.reply) }
 {
-    let Some((client, phase)) = grant_in(&event.reply) else {
-        return;
-    };
+    let Grant {
+        client,
+        phase,
+        cost,
+    } = grant_in(&event.reply)?;
     let Some(place) = place_with_hint(names, hint, client) else {
         unreachable!()
     };
-    issue_unit(&mut desks[place].books, &mut units[place], phase);
+    let unit = &mut units[place];
+    issue_unit(&mut desks[place].books, unit, phase, cost);
+    Some(make_unit(client, server, phase, cost, tills_of(unit, phase)))
 }
 
 /// Whether both are of the same books.

@@ -2,9 +2,9 @@
 ghost use Rattle.std.specs.Prelude.{ℕ, ◌≡◌, ◌<◌, ◌≤◌, ◌++◌, ◌∷◌, ◌↔◌, [], length, map, true, None, IfErr, IfOk, IfSome, OnErr, OnOk, IsErrAnd, IsErrOf, IsNone, IsTrue, is_some, slice_index_or, vec_capacity};
 ghost use Rattle.std.specs.Arc.{arc_value};
 ghost use Rattle.dmc_types.specs.Limits.{max_clients};
-ghost use Rattle.dmc_ledger.specs.Bundles.{client_side, grant_holdings, stamp_holdings};
+ghost use Rattle.dmc_ledger.specs.Bundles.{client_side, grant_holdings, phase_accounts, stamp_holdings};
 ghost use Rattle.dmc_book.specs.BookState.{no_desk, pass_state, worker_side};
-ghost use Rattle.dmc_book.specs.Joining.{IsUnissued, IsUnused, book_admitted};
+ghost use Rattle.dmc_book.specs.Joining.{IsPhaseUnissued, IsUnissued, IsUnused, book_admitted};
 ghost use Rattle.dmc_book.specs.internal.Joining.{IsAgainst, accounts_admitted};
 ghost use Rattle.dmc_book.specs.Moves.{desk_place};
 
@@ -14,7 +14,7 @@ use crate::fault::{AdmitCause, AdmitFault};
 use crate::opening::MAX_DESKS;
 use dmc_index::index::Indexes;
 use dmc_ledger::book::Book;
-use dmc_ledger::bundle::StampTills;
+use dmc_ledger::bundle::{PhaseBooks, StampTills};
 use dmc_ledger::desk::ClientDesk;
 use dmc_ledger::setup::Setup;
 use dmc_tag::tag::Tag;
@@ -108,14 +108,21 @@ fn is_unused<S: Setup>(server: ServerId, desk: &ClientDesk<S>) -> bool
 {
     desk.server == server
         && holds_nothing(&desk.held)
-        && is_unissued(&desk.books.reservation)
-        && is_unissued(&desk.books.priority)
+        && are_unissued(&desk.books.reservation)
+        && are_unissued(&desk.books.priority)
 }
 
 fn holds_nothing<S: Setup>(tills: &StampTills<S>) -> bool
     ensures { IsTrue result ↔ ((stamp_holdings tills.now).stamps.amount ≡ 0) × ((stamp_holdings tills.now).delta.amount ≡ 0) × ((stamp_holdings tills.now).rho.amount ≡ 0) }
 {
     tills.stamps.amount() == 0 && tills.delta.amount() == 0 && tills.rho.amount() == 0
+}
+
+/// Whether nothing was issued in a phase, and one till of each book is open.
+fn are_unissued<S: Setup>(books: &PhaseBooks<S>) -> bool
+    ensures { IsTrue result ↔ IsPhaseUnissued (phase_accounts books.now) }
+{
+    is_unissued(&books.grants) && is_unissued(&books.cost)
 }
 
 /// Whether nothing was issued, and one till is open.

@@ -24,8 +24,8 @@ pub fn history_replays<T: Tag, I: Indexes<T>, S: Setup>(book: &QueueBook<T, I, S
 }
 
 /// The counts: the books of each worker total its counts over the history, or were gathered at them if it was
-/// dismissed; and each desk holds the stamps, deltas and
-/// rhos of its client's accepted adds and totals its grants of each phase.
+/// dismissed; and each desk holds the stamps, deltas and rhos of its client's accepted adds and totals its grants of each phase, in
+/// number and in cost.
 pub fn history_is_counted<T: Tag, I: Indexes<T>, S: Setup>(book: &QueueBook<T, I, S>)
     ensures workers { AllByRecursion (λ w. IsWorker book.now.history w ⊎ HasLeft book.now.history w) book.now.workers }
     ensures desks { AreDesks book.now.history book.now.server book.now.workers book.now.desks }
@@ -35,7 +35,7 @@ pub fn history_is_counted<T: Tag, I: Indexes<T>, S: Setup>(book: &QueueBook<T, I
 }
 
 /// The grants: each is of a client that has a desk, and no two desks are of one client. So what the desks' clients were granted
-/// in a phase is together all that was granted in it.
+/// in a phase is together all that was granted in it, in number and in cost.
 pub fn grants_are_of_desks<T: Tag, I: Indexes<T>, S: Setup>(book: &QueueBook<T, I, S>)
     ensures { AreGrantsOfDesks book.now.history book.now.desks }
 {
@@ -62,7 +62,7 @@ pub fn history_keeps_to_limits<T: Tag, I: Indexes<T>, S: Setup>(book: &QueueBook
 }
 
 /// The bound of the reservations: up to a grant of a_k in phase Reservation, hz times the rhos of a_(i+1) .. a_k, less hz for
-/// each Priority grant of the client after a_i, is at most the reservation times the ticks between.
+/// each unit of cost of the client's Priority grants after a_i, is at most the reservation times the ticks between.
 pub fn history_keeps_to_reservations<T: Tag, I: Indexes<T>, S: Setup>(book: &QueueBook<T, I, S>)
     ensures { KeepsToReservations T.ops book.now.config book.now.history }
 {

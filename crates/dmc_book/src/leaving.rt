@@ -1,16 +1,16 @@
 //! Workers that leave.
 ghost use Rattle.std.specs.Prelude.{◌≡◌, ◌↔◌, map, IfErr, IsOk, IsTrue, OnErr, OnOk};
 ghost use Rattle.std.specs.List.{AllByRecursion};
-ghost use Rattle.dmc_ledger.specs.Bundles.{grant_holdings};
+ghost use Rattle.dmc_ledger.specs.Bundles.{grant_holdings, phase_holdings};
 ghost use Rattle.dmc_book.specs.BookState.{pass_state};
-ghost use Rattle.dmc_book.specs.Leaving.{HoldsNothing, IsGone, MayLeave};
+ghost use Rattle.dmc_book.specs.Leaving.{HoldsNoGrant, HoldsNothing, IsGone, MayLeave};
 
 use crate::accounts::Accounts;
 use crate::book::QueueBook;
 use crate::pass::WorkerPass;
 use crate::settled::{is_own, take_pass};
 use dmc_index::index::Indexes;
-use dmc_ledger::bundle::GrantTills;
+use dmc_ledger::bundle::{GrantTills, PhaseTills};
 use dmc_ledger::setup::Setup;
 use dmc_tag::tag::Tag;
 
@@ -68,5 +68,11 @@ fn hold_nothing<S: Setup>(units: &[GrantTills<S>]) -> bool
 fn holds_nothing<S: Setup>(unit: &GrantTills<S>) -> bool
     ensures { IsTrue result ↔ HoldsNothing (grant_holdings unit.now) }
 {
-    unit.reservation.amount() == 0 && unit.priority.amount() == 0
+    hold_no_grant(&unit.reservation) && hold_no_grant(&unit.priority)
+}
+
+fn hold_no_grant<S: Setup>(tills: &PhaseTills<S>) -> bool
+    ensures { IsTrue result ↔ HoldsNoGrant (phase_holdings tills.now) }
+{
+    tills.grants.amount() == 0 && tills.cost.amount() == 0
 }

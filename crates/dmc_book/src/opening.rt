@@ -4,11 +4,11 @@ ghost use Rattle.std.specs.List.{AllByRecursion};
 ghost use Rattle.std.specs.Arc.{arc_value};
 ghost use Rattle.dmc_types.specs.Limits.{max_events, max_workers};
 ghost use Rattle.dmc_ledger.specs.Accounts.{new_book, new_till};
-ghost use Rattle.dmc_ledger.specs.Bundles.{client_side, grant_holdings};
+ghost use Rattle.dmc_ledger.specs.Bundles.{client_side, grant_holdings, phase_accounts, phase_holdings};
 ghost use Rattle.dmc_book.specs.BookState.{pass_state, worker_side, no_desk};
-ghost use Rattle.dmc_book.specs.Opening.{AreApart, AreBookLimits, AreNamedOnce, IsNewDesk, desk_with_tills, new_accounts_state, new_pass, new_passes, new_unit, new_worker, new_workers};
+ghost use Rattle.dmc_book.specs.Opening.{AreApart, AreBookLimits, AreNamedOnce, IsNewDesk, desk_with_tills, phase_with_tills, new_accounts_state, new_pass, new_passes, new_phase_tills, new_unit, new_worker, new_workers};
 ghost use Rattle.dmc_book.specs.PerCount.{books_per_worker, map_counts, numbers_from};
-ghost use Rattle.dmc_book.specs.internal.Opening.{HaveRoom};
+ghost use Rattle.dmc_book.specs.internal.Opening.{HasPhaseRoom, HaveRoom};
 ghost use Rattle.dmc_book.specs.internal.Rooms.{IsRoom, IsRoomFor};
 
 use crate::accounts::Accounts;
@@ -17,7 +17,7 @@ use crate::pass::WorkerPass;
 use crate::per_count::{BOOKS_PER_WORKER, WorkerCounts};
 use crate::seat::{Seat, WorkerBooks, WorkerTills};
 use dmc_ledger::book::Book;
-use dmc_ledger::bundle::GrantTills;
+use dmc_ledger::bundle::{GrantTills, PhaseBooks, PhaseTills};
 use dmc_ledger::desk::ClientDesk;
 use dmc_ledger::mint::Mint;
 use dmc_ledger::setup::Setup;
@@ -229,12 +229,14 @@ fn open_worker<S: Setup>(mint: &mut Mint<S>) -> (WorkerBooks<S>, WorkerTills<S>)
     let (tokens, tokens_till) = open_book(mint);
     let (grants, grants_till) = open_book(mint);
     let (granted, granted_till) = open_book(mint);
+    let (cost, cost_till) = open_book(mint);
     let books = WorkerCounts {
         calls,
         misses,
         tokens,
         grants,
         granted,
+        cost,
     };
     let tills = WorkerCounts {
         calls: calls_till,
@@ -242,8 +244,24 @@ fn open_worker<S: Setup>(mint: &mut Mint<S>) -> (WorkerBooks<S>, WorkerTills<S>)
         tokens: tokens_till,
         grants: grants_till,
         granted: granted_till,
+        cost: cost_till,
     };
     (books, tills)
+}
+
+/// A till of each book of a phase.
+fn open_phase<S: Setup>(books: &mut PhaseBooks<S>) -> PhaseTills<S>
+    requires { HasPhaseRoom (phase_accounts books.old) }
+    ensures books { phase_accounts books.new ≡ phase_with_tills 1 (phase_accounts books.old) }
+    ensures tills { phase_holdings result ≡ new_phase_tills (phase_accounts books.old) }
+{
+    let Ok(grants) = books.grants.till() else {
+        unreachable!()
+    };
+    let Ok(cost) = books.cost.till() else {
+        unreachable!()
+    };
+    PhaseTills { grants, cost }
 }
 
 /// A till of each grant book of a desk.
@@ -252,15 +270,9 @@ fn open_unit<S: Setup>(desk: &mut ClientDesk<S>) -> GrantTills<S>
     ensures desk { client_side desk.new ≡ desk_with_tills 1 (client_side desk.old) }
     ensures unit { grant_holdings result ≡ new_unit (client_side desk.old) }
 {
-    let Ok(reservation) = desk.books.reservation.till() else {
-        unreachable!()
-    };
-    let Ok(priority) = desk.books.priority.till() else {
-        unreachable!()
-    };
     GrantTills {
-        reservation,
-        priority,
+        reservation: open_phase(&mut desk.books.reservation),
+        priority: open_phase(&mut desk.books.priority),
     }
 }
 
@@ -303,6 +315,7 @@ pub(crate) fn open_one<S: Setup>(
         tills,
         clients,
         units,
+        granted: None,
         recent: Cell::new(0),
     };
     let seat = Seat {
@@ -393,6 +406,7 @@ pub(crate) fn open_accounts<T: Tag, S: Setup>(
         workers: seats,
         clients,
         desks,
+        cost: 0,
     };
     (accounts, passes)
 }

@@ -1,19 +1,19 @@
 //! The tills of a worker.
-ghost use Rattle.std.specs.Prelude.{◌≡◌, ◌<◌, ◌^◌, ◌↔◌, ◌⊎◌, IsTrue, slice_get};
+ghost use Rattle.std.specs.Prelude.{◌≡◌, ◌<◌, ◌^◌, ◌↔◌, ◌⊎◌, None, IsTrue, option_map, slice_get};
 ghost use Rattle.std.specs.Borrow.{sem, Lends, LendsIf};
 ghost use Rattle.std.specs.Option.{option_copied_mut};
-ghost use Rattle.dmc_ledger.specs.Bundles.{grant_holdings};
-ghost use Rattle.dmc_ledger.specs.Moves.{till_in};
+ghost use Rattle.dmc_ledger.specs.Bundles.{grant_holdings, phase_holdings};
+ghost use Rattle.dmc_ledger.specs.Moves.{tills_in};
 ghost use Rattle.dmc_ledger.specs.contracts.bundle.GrantTills.{the_row as unit_row};
-ghost use Rattle.dmc_ledger.specs.contracts.till.Till.{the_row as till_row};
+ghost use Rattle.dmc_ledger.specs.contracts.bundle.PhaseTills.{the_row as phase_row};
 ghost use Rattle.dmc_book.specs.BookState.{pass_state};
-ghost use Rattle.dmc_book.specs.Lending.{till_for, with_till, with_unit, given_back};
+ghost use Rattle.dmc_book.specs.Lending.{tills_for, with_tills, with_unit, given_back};
 ghost use Rattle.dmc_book.specs.contracts.pass.WorkerPass.{the_row as pass_row};
 
 use crate::seat::WorkerTills;
-use dmc_ledger::bundle::GrantTills;
+use dmc_ledger::bundle::{GrantTills, PhaseTills};
 use dmc_ledger::setup::Setup;
-use dmc_ledger::till::Till;
+use dmc_ledger::unit::Unit;
 use dmc_types::config::PhaseType;
 use dmc_types::ids::{ClientId, WorkerId};
 use indexmap::IndexSet;
@@ -24,10 +24,10 @@ use std::sync::Arc;
 /// A sum of tokens past this one is to be renewed.
 const RENEWAL: u64 = 1 << 61;
 
-/// A worker's tills: one of each of its own counts, and for each client with a desk one for the grants of each phase.
+/// A worker's tills: one of each of its own counts, and for each client with a desk those of the grants of each phase.
 ///
-/// A till of grants is lent to whoever responds. What was lent may come back changed: that is found out when it is next
-/// used, or when the pass is settled.
+/// Tills of grants are lent to whoever responds. What was lent may come back changed: that is found out when it is next
+/// used, or when the pass is settled. The unit of a grant is taken out once the grant was pulled, and goes with the response.
 #[derive(Drop)]
 pub struct WorkerPass<S: Setup> {
     pub(crate) worker: WorkerId,
@@ -37,21 +37,32 @@ pub struct WorkerPass<S: Setup> {
     // The names of the desks, in order. The passes share them.
     pub(crate) clients: Arc<IndexSet<ClientId>, Global>,
     pub(crate) units: Vec<GrantTills<S>>,
+    // Of the last grant, until it is taken.
+    pub(crate) granted: Option<Unit>,
     // The place of the desk that was found last, if the next one is looked for first.
     pub(crate) recent: Cell<usize>,
 }
 
 impl<S: Setup> WorkerPass<S> {
-    /// Lends the till of a client's grants in a phase, or `None` if the pass has none for the client.
-    pub fn grant_till(&mut self, client: ClientId, phase: PhaseType) -> Option<&mut Till<S>>
-        // The pass has then this till as it was given back, and all else as it was.
-        ensures* writes_back { sem 𝓛 (LendsIf (pass_row S.row (record { name = S.name })) (till_row S.row (record { name = S.name })) self.entry result (λ till. given_back self.old client phase till) self.old) }
+    /// Takes out the unit of the last grant that was pulled with this pass: it goes with the response. `None` if it was taken
+    /// already, or nothing was granted yet. A unit that is not taken before the next grant is lost.
+    pub fn take_unit(&mut self) -> Option<Unit>
+        ensures value { result ≡ (pass_state self.old).granted }
+        ensures taken { pass_state self.new ≡ record (pass_state self.old) { granted = None } }
+    {
+        self.granted.take()
+    }
 
-        ensures value { option_copied_mut result ≡ till_for (pass_state self.old) client phase }
+    /// Lends the tills of a client's grants in a phase, or `None` if the pass has none for the client.
+    pub fn grant_tills(&mut self, client: ClientId, phase: PhaseType) -> Option<&mut PhaseTills<S>>
+        // The pass has then these tills as they were given back, and all else as it was.
+        ensures* writes_back { sem 𝓛 (LendsIf (pass_row S.row (record { name = S.name })) (phase_row S.row (record { name = S.name })) self.entry result (λ tills. given_back self.old client phase tills) self.old) }
+
+        ensures value { option_map phase_holdings (option_copied_mut result) ≡ tills_for (pass_state self.old) client phase }
     {
         let place = self.clients.get_index_of(&client)?;
         let unit = self.unit_mut(place)?;
-        Some(till_mut(unit, phase))
+        Some(tills_mut(unit, phase))
     }
 
     /// Whether a sum of its tokens is past 2^61: `renew` it then.
@@ -71,11 +82,11 @@ impl<S: Setup> WorkerPass<S> {
     }
 }
 
-/// Lends the till of a phase.
-fn till_mut<S: Setup>(unit: &mut GrantTills<S>, phase: PhaseType) -> &mut Till<S>
-    ensures* writes_back { sem 𝓛 (Lends (unit_row S.row (record { name = S.name })) (till_row S.row (record { name = S.name })) unit.entry result (λ till. with_till phase till unit.old)) }
+/// Lends the tills of a phase.
+fn tills_mut<S: Setup>(unit: &mut GrantTills<S>, phase: PhaseType) -> &mut PhaseTills<S>
+    ensures* writes_back { sem 𝓛 (Lends (unit_row S.row (record { name = S.name })) (phase_row S.row (record { name = S.name })) unit.entry result (λ tills. with_tills phase tills unit.old)) }
 
-    ensures value { result.now ≡ till_in phase (grant_holdings unit.old) }
+    ensures value { phase_holdings result.now ≡ tills_in phase (grant_holdings unit.old) }
 {
     match phase {
         PhaseType::Reservation => &mut unit.reservation,

@@ -57,7 +57,7 @@ impl<T: Tag, I: Indexes<T>, S: Setup> QueueBook<T, I, S> {
             return Err(RunOrRange::Run(RunFault::from(fault)));
         }
         let answer = ask_to_pull(&mut self.queue.0, &self.accounts, pass, at);
-        let reply = match reply_of(answer) {
+        let reply = match reply_of(&answer) {
             Ok(reply) => reply,
             Err(fault) => return Err(RunOrRange::Run(fault)),
         };

@@ -81,6 +81,13 @@ impl<S: Setup> Seat<S> {
     {
         self.books.granted.gathered()
     }
+
+    /// What its grants cost, summed.
+    pub fn cost(&self) -> u64
+        ensures { result ≡ (worker_side self.now).books.cost.gathered }
+    {
+        self.books.cost.gathered()
+    }
 }
 
 /// Adds to a book and to its till.
@@ -113,6 +120,7 @@ fn credit_all<S: Setup>(
     credit(&mut books.tokens, &mut tills.tokens, numbers.tokens);
     credit(&mut books.grants, &mut tills.grants, numbers.grants);
     credit(&mut books.granted, &mut tills.granted, numbers.granted);
+    credit(&mut books.cost, &mut tills.cost, numbers.cost);
 }
 
 /// Whether the tills are of these books.
@@ -129,6 +137,7 @@ pub(crate) fn are_of<S: Setup>(tills: &WorkerTills<S>, books: &WorkerBooks<S>) -
         && tills.tokens.number() == books.tokens.number()
         && tills.grants.number() == books.grants.number()
         && tills.granted.number() == books.granted.number()
+        && tills.cost.number() == books.cost.number()
 }
 
 /// Whether the pass is of a worker that is enrolled, and its tills are of that worker's books.

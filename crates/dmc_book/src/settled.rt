@@ -3,19 +3,21 @@ ghost use Rattle.std.specs.Prelude.{ℕ, ◌≡◌, ◌≤◌, ◌<◌, ◌↔�
 ghost use Rattle.std.specs.List.{AllByRecursion};
 ghost use Rattle.dmc_types.specs.Limits.{max_events};
 ghost use Rattle.dmc_ledger.specs.Accounts.{after_closing};
-ghost use Rattle.dmc_ledger.specs.Bundles.{client_side, grant_accounts, grant_holdings};
+ghost use Rattle.dmc_ledger.specs.Bundles.{client_side, grant_accounts, grant_holdings, phase_accounts, phase_holdings};
+ghost use Rattle.dmc_ledger.specs.Moves.{ArePhaseOf};
 ghost use Rattle.dmc_book.specs.BookState.{pass_state, worker_side, no_desk, no_worker};
 ghost use Rattle.dmc_book.specs.Consistent.{reaching};
 ghost use Rattle.dmc_book.specs.Moves.{AreOf};
 ghost use Rattle.dmc_book.specs.PerCount.{map_counts};
-ghost use Rattle.dmc_book.specs.Settling.{AreDeskUnits, AreGrantsOfDesks, AreOwn, AreSettledDesks, AreUnitsOf, AreUnitsTakenIn, IsDeskTakenIn, IsOwn, IsSettledWorker, IsTakenIn, closed_worker, open_passes};
+ghost use Rattle.dmc_book.specs.Settling.{AreDeskUnits, AreGrantsOfDesks, AreOwn, AreSettledDesks, AreUnitsOf, AreUnitsTakenIn, IsDeskTakenIn, IsOwn, IsPhaseTakenIn, IsSettledWorker, IsTakenIn, amounts_in, closed_worker, gathered_in, open_passes};
 ghost use Rattle.dmc_book.specs.internal.Settling.{AreOneOpen, ArePassesTakenIn, IsOpenOrShut, accounts_settled, having};
 
 use crate::accounts::Accounts;
+use crate::desk::are_of_phase;
 use crate::pass::WorkerPass;
 use crate::seat::{Seat, WorkerBooks, WorkerTills, is_enrolled};
 use dmc_ledger::book::Book;
-use dmc_ledger::bundle::{GrantBooks, GrantTills};
+use dmc_ledger::bundle::{GrantBooks, GrantTills, PhaseBooks, PhaseTills};
 use dmc_ledger::desk::ClientDesk;
 use dmc_ledger::setup::Setup;
 use dmc_ledger::till::Till;
@@ -25,11 +27,18 @@ use indexmap::IndexSet;
 use std::alloc::Global;
 use std::mem::replace;
 
-/// What was left of a client's grants in the workers' passes: units of each phase.
+/// Grants of one phase: how many, and what they cost.
+#[derive(Clone, Copy, Debug, Default, PartialEq, Eq)]
+pub struct Amounts {
+    pub grants: u64,
+    pub cost: u64,
+}
+
+/// What was left of a client's grants in the workers' passes, of each phase.
 #[derive(Clone, Copy, Debug, Default, PartialEq, Eq)]
 pub struct GrantsHeld {
-    pub reservation: u64,
-    pub priority: u64,
+    pub reservation: Amounts,
+    pub priority: Amounts,
 }
 
 /// What a queue's book leaves: the events recorded since the last release, how many requests were queued, the
@@ -47,23 +56,33 @@ impl<T: Tag, S: Setup> Settled<T, S> {
     pub fn held(&self, place: usize) -> Option<GrantsHeld>
         ensures desk { IsSome result ↔ (place < length self.now.desks.items) }
         ensures reservation { IfSome result (λ held.
-            held.reservation ≡ (slice_index_or (map client_side self.now.desks.items) place no_desk).books.reservation.gathered) }
+            held.reservation ≡ gathered_in (slice_index_or (map client_side self.now.desks.items) place no_desk).books.reservation) }
         ensures priority { IfSome result (λ held.
-            held.priority ≡ (slice_index_or (map client_side self.now.desks.items) place no_desk).books.priority.gathered) }
+            held.priority ≡ gathered_in (slice_index_or (map client_side self.now.desks.items) place no_desk).books.priority) }
     {
         let desk = self.desks.get(place)?;
         Some(GrantsHeld {
-            reservation: desk.books.reservation.gathered(),
-            priority: desk.books.priority.gathered(),
+            reservation: gathered_in(&desk.books.reservation),
+            priority: gathered_in(&desk.books.priority),
         })
+    }
+}
+
+/// What the books of a phase gathered.
+fn gathered_in<S: Setup>(books: &PhaseBooks<S>) -> Amounts
+    ensures { result ≡ gathered_in (phase_accounts books.now) }
+{
+    Amounts {
+        grants: books.grants.gathered(),
+        cost: books.cost.gathered(),
     }
 }
 
 fn are_units_of<S: Setup>(tills: &GrantTills<S>, books: &GrantBooks<S>) -> bool
     ensures { IsTrue result ↔ AreUnitsOf (grant_holdings tills.now) (grant_accounts books.now) }
 {
-    tills.reservation.number() == books.reservation.number()
-        && tills.priority.number() == books.priority.number()
+    are_of_phase(&tills.reservation, &books.reservation)
+        && are_of_phase(&tills.priority, &books.priority)
 }
 
 /// Whether the tills are of the first desks' grant books, in the order of the desks.
@@ -144,19 +163,30 @@ fn take_tills<S: Setup>(books: &mut WorkerBooks<S>, tills: WorkerTills<S>)
     take_till(&mut books.tokens, tills.tokens);
     take_till(&mut books.grants, tills.grants);
     take_till(&mut books.granted, tills.granted);
+    take_till(&mut books.cost, tills.cost);
 }
 
 /// Gathers the tills of a desk.
 fn take_unit<S: Setup>(desk: &mut ClientDesk<S>, unit: GrantTills<S>)
     requires { AreUnitsOf (grant_holdings unit) (client_side desk.old).books }
-    ensures { IsDeskTakenIn 1 (grant_holdings unit).reservation.amount (grant_holdings unit).priority.amount (client_side desk.old) (client_side desk.new) }
+    ensures { IsDeskTakenIn 1 (amounts_in (grant_holdings unit).reservation) (amounts_in (grant_holdings unit).priority) (client_side desk.old) (client_side desk.new) }
 {
     let GrantTills {
         reservation,
         priority,
     } = unit;
-    take_till(&mut desk.books.reservation, reservation);
-    take_till(&mut desk.books.priority, priority);
+    take_phase(&mut desk.books.reservation, reservation);
+    take_phase(&mut desk.books.priority, priority);
+}
+
+/// Gathers the tills of a phase.
+fn take_phase<S: Setup>(books: &mut PhaseBooks<S>, tills: PhaseTills<S>)
+    requires { ArePhaseOf (phase_holdings tills) (phase_accounts books.old) }
+    ensures { IsPhaseTakenIn 1 (amounts_in (phase_holdings tills)) (phase_accounts books.old) (phase_accounts books.new) }
+{
+    let PhaseTills { grants, cost } = tills;
+    take_till(&mut books.grants, grants);
+    take_till(&mut books.cost, cost);
 }
 
 /// Gathers the tills of the first desks, from the last on.
@@ -192,6 +222,7 @@ pub(crate) fn take_pass<S: Setup>(
         tills,
         clients: _,
         units,
+        granted: _,
         recent: _,
     } = pass;
     let seat = &mut workers[place];
@@ -238,6 +269,7 @@ impl<T: Tag, S: Setup> Accounts<T, S> {
     {
         take_passes(&mut self.workers, &mut self.desks, passes);
         self.clients = IndexSet::new(alloc);
+        self.cost = 0;
         Settled {
             history: self.history.take(),
             left,

@@ -13,6 +13,8 @@ pub struct Status {
     pub grants: u64,
     /// The tokens of these grants, summed.
     pub granted: u64,
+    /// What these grants cost, summed.
+    pub cost: u64,
     /// How many clients are registered.
     pub clients: u32,
     /// How many requests are queued.

@@ -1,11 +1,11 @@
--- What the book's answers come to at the lock.
+-- What the book's answers are at the lock.
 use Rattle.std.proofs.Common.{◌≡◌, Bool, true, false, true≢false, List, [], Result, Ok, Err, refl, subst, sym}
 use Rattle.std.specs.Prelude.{ℕ, ◌==◌, ◌&&◌, not, length, IfErr, IfOk}
 use Rattle.std.specs.Cmp.{IsTotalOrder}
 use Rattle.dmc_types.specs.declared.ids.ClientId.{ClientId}
 use Rattle.dmc_types.specs.declared.config.PhaseType.{PhaseType}
 use Rattle.dmc_types.specs.declared.command.Command.{Command}
-use Rattle.dmc_types.specs.declared.command.Command.TheVariants.{Register, Update, Add, Pull, Remove, Clean}
+use Rattle.dmc_types.specs.declared.command.Command.TheVariants.{Register, Update, Add, Pull, Remove, Cancel, Clean}
 use Rattle.dmc_types.specs.declared.refusal.Refusal.TheVariants.{Range}
 use Rattle.dmc_tag.specs.Answers.{pull_reply}
 use Rattle.dmc_tag.specs.declared.reply.Pulled.{Pulled}
@@ -30,7 +30,7 @@ use Rattle.dmc_qlock.specs.internal.Calls.{must_wait}
 
 module _ {T : Type 0} (ops : Tagging T) (old new : BookState T) (before later : PassState) (command : Command) where
   answered : (reply : Reply T) → Ran ops old new before later command reply → Replied ops before later command reply
-  answered reply h = record { pass = h.pass; state = after ops old.config old.history; reply_is = h.reply_is }
+  answered reply h = record { server = old.server; pass = h.pass; state = after ops old.config old.history; reply_is = h.reply_is }
 
   submit_answered : (cause : SubmitCause) → SubmitRefused ops old new before later command cause → SubmitReplied ops before later command cause
   submit_answered submit.Stranger h = h.1
@@ -60,6 +60,7 @@ strays_if_pulled takes (Update client info at) reply h = absurd h
 strays_if_pulled takes (Add client token params at) reply h = absurd h
 strays_if_pulled takes (Pull at) reply h = refl
 strays_if_pulled takes (Remove client) reply h = absurd h
+strays_if_pulled takes (Cancel client token counting) reply h = absurd h
 strays_if_pulled takes (Clean at) reply h = absurd h
 
 -- with nothing queued, who need not wait finds the book closed

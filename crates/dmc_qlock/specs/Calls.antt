@@ -24,9 +24,10 @@ use Rattle.dmc_book.specs.declared.fault.RunOrRange.TheVariants as pull
 
 -- ---- commands through the lock
 
--- The queue replied: the rules give this reply to the command in some state, and the pass steps with it.
+-- The queue of some server replied: the rules give this reply to the command in some state, and the pass steps with it.
 pub record Replied {T : Type 0} (ops : Tagging T) (before later : PassState) (command : Command) (reply : Reply T) : Type 0 where
-  pub pass : later ≡ pass_after command reply before
+  pub server : ℕ
+  pub pass : later ≡ pass_after server command reply before
   pub state : State T
   pub reply_is : reply ≡ (step ops state command).1
 

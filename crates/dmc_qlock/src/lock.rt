@@ -135,9 +135,9 @@ impl<T: Tag, I: Indexes<T>, S: Setup, W: Witness<QueueBook<T, I, S>>> LockedQueu
     QueueBook<T, I, S>,
     W,
 > {
-    /// Runs any command but an Add, and records its reply. The pass has one call more, one miss more
-    /// if the reply is Later, Nothing or Refused, and of a grant one grant, its token, and one unit of its client and
-    /// phase.
+    /// Runs any command but an Add, and records its reply. The pass has one call more, one miss more if the reply is Later, Nothing
+    /// or Refused, and of a grant one grant, its token, its cost, and the unit of its client and phase, which it takes to the
+    /// response (`WorkerPass::take_unit`).
     ///
     /// Refused, with nothing recorded: `Stranger`, `Behind` (of a Pull alone), `NoDesk` (of a Register alone), `HistoryFull`,
     /// `Memory`.

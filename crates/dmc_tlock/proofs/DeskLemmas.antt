@@ -11,14 +11,14 @@ use Rattle.dmc_types.specs.declared.config.PhaseType.{PhaseType}
 use Rattle.dmc_types.specs.declared.config.PhaseType.TheVariants.{Reservation, Priority}
 use Rattle.dmc_tracker.specs.declared.event.TrackerEvent.{TrackerEvent}
 use Rattle.dmc_tracker.specs.declared.event.TrackerEvent.TheVariants.{Stamp, Skip, Response}
-use Rattle.dmc_tracker.proofs.ForCallers.{sent-response, sent-skip, sent-stamp_same, sent-stamp_other, stamps-response, stamps-skip, stamps-stamp_same, stamps-stamp_other, responses-skip, responses-stamp, responses-response_same, responses-response_other, responses-reservation-priority, responses-priority-reservation, same_server}
+use Rattle.dmc_tracker.proofs.ForCallers.{sent-response, sent-skip, sent-stamp_same, sent-stamp_other, stamps-response, stamps-skip, stamps-stamp_same, stamps-stamp_other, responses-skip, responses-stamp, responses-response_same, responses-response_other, responses-reservation-priority, responses-priority-reservation, response_costs-skip, response_costs-stamp, response_costs-response_same, response_costs-response_other, response_costs-reservation-priority, response_costs-priority-reservation, same_server}
 use Rattle.dmc_ledger.specs.Accounts.{Account}
-use Rattle.dmc_ledger.specs.Bundles.{ServerSide, StampAccounts, StampHoldings, GrantHoldings, server_side, stamp_holdings}
+use Rattle.dmc_ledger.specs.Bundles.{ServerSide, StampAccounts, StampHoldings, PhaseHoldings, GrantHoldings, server_side, stamp_holdings}
 use Rattle.dmc_ledger.specs.declared.bundle.StampTills.{StampTills}
 use Rattle.dmc_ledger.specs.declared.desk.ServerDesk.{ServerDesk}
-use Rattle.dmc_ledger.specs.Moves.{after_issue, books_after_stamp, tills_after_response}
+use Rattle.dmc_ledger.specs.Moves.{after_issue, books_after_stamp, tills_after_response, tills_in, with_grant}
 use Rattle.dmc_tlock.specs.BookState.{no_side, no_tills, desk_at}
-use Rattle.dmc_tlock.specs.Consistent.{IsBook, AreStampBooks, AreGrantTills, IsDesk}
+use Rattle.dmc_tlock.specs.Consistent.{IsBook, AreStampBooks, ArePhaseTills, AreGrantTills, IsDesk}
 use Rattle.dmc_tlock.specs.Entries.{side_after_stamp, side_after_response}
 
 -- a book that issued an amount, and a book whose total has another name
@@ -62,49 +62,80 @@ module _ (events : List TrackerEvent) (s : ServerId) where
         rho = same _ _ _ (ap (λ (x : Counts). x.rho) sums) h.rho;
       }
 
-  books-response : (q : ServerId) (phase : PhaseType) (b : StampAccounts) → AreStampBooks events s b
-      → AreStampBooks (events ++ Response q phase ∷ []) s b
-  books-response q phase b h =
-      let sums = sent-response s events q phase in
+  books-response : (q : ServerId) (phase : PhaseType) (cost : ℕ) (b : StampAccounts) → AreStampBooks events s b
+      → AreStampBooks (events ++ Response q phase cost ∷ []) s b
+  books-response q phase cost b h =
+      let sums = sent-response s events q phase cost in
       record {
-        stamps = same _ _ _ (stamps-response s events q phase) h.stamps;
+        stamps = same _ _ _ (stamps-response s events q phase cost) h.stamps;
         delta = same _ _ _ (ap (λ (x : Counts). x.delta) sums) h.delta;
         rho = same _ _ _ (ap (λ (x : Counts). x.rho) sums) h.rho;
       }
 
-  -- the grant tills: a stamp, a skip, a response of their server, a response of another
+  -- the grant tills of a phase: a stamp, a skip, a response of their server in the phase, a response of another
+  phase-stamp : (q : ServerId) (p : Params) (phase : PhaseType) (t : PhaseHoldings) → ArePhaseTills events s phase t
+      → ArePhaseTills (events ++ Stamp q p ∷ []) s phase t
+  phase-stamp q p phase t h = record {
+    grants = h.grants ∙ sym (responses-stamp s events phase q p);
+    cost = h.cost ∙ sym (response_costs-stamp s events phase q p);
+  }
+
+  phase-skip : (q : ServerId) (phase : PhaseType) (t : PhaseHoldings) → ArePhaseTills events s phase t
+      → ArePhaseTills (events ++ Skip q ∷ []) s phase t
+  phase-skip q phase t h = record {
+    grants = h.grants ∙ sym (responses-skip s events phase q);
+    cost = h.cost ∙ sym (response_costs-skip s events phase q);
+  }
+
+  phase-response_same : (phase : PhaseType) (cost : ℕ) (t : PhaseHoldings) → ArePhaseTills events s phase t
+      → ArePhaseTills (events ++ Response s phase cost ∷ []) s phase (with_grant cost t)
+  phase-response_same phase cost t h = record {
+    grants = omega (arith, responses-response_same s events phase s cost here, h.grants);
+    cost = omega (arith, response_costs-response_same s events phase s cost here, h.cost);
+  }
+
+  phase-response_other : (q : ServerId) (granted : PhaseType) (cost : ℕ) (phase : PhaseType) (t : PhaseHoldings) → (q.0 == s.0) ≡ false
+      → ArePhaseTills events s phase t → ArePhaseTills (events ++ Response q granted cost ∷ []) s phase t
+  phase-response_other q granted cost phase t there h = record {
+    grants = h.grants ∙ sym (responses-response_other s events phase q granted cost there);
+    cost = h.cost ∙ sym (response_costs-response_other s events phase q granted cost there);
+  }
+
+  -- those of both phases
   tills-stamp : (q : ServerId) (p : Params) (t : GrantHoldings) → AreGrantTills events s t → AreGrantTills (events ++ Stamp q p ∷ []) s t
   tills-stamp q p t h = record {
-    reservation = h.reservation ∙ sym (responses-stamp s events Reservation q p);
-    priority = h.priority ∙ sym (responses-stamp s events Priority q p);
+    reservation = phase-stamp q p Reservation t.reservation h.reservation;
+    priority = phase-stamp q p Priority t.priority h.priority;
   }
 
   tills-skip : (q : ServerId) (t : GrantHoldings) → AreGrantTills events s t → AreGrantTills (events ++ Skip q ∷ []) s t
   tills-skip q t h = record {
-    reservation = h.reservation ∙ sym (responses-skip s events Reservation q);
-    priority = h.priority ∙ sym (responses-skip s events Priority q);
+    reservation = phase-skip q Reservation t.reservation h.reservation;
+    priority = phase-skip q Priority t.priority h.priority;
   }
 
-  tills-response_same : (phase : PhaseType) (t : GrantHoldings) → AreGrantTills events s t
-      → AreGrantTills (events ++ Response s phase ∷ []) s (tills_after_response phase t)
-  tills-response_same Reservation t h =
-      let one = responses-response_same s events Reservation s here in
-      record {
-        reservation = omega (arith, one, h.reservation);
-        priority = h.priority ∙ sym (responses-priority-reservation s events s);
-      }
-  tills-response_same Priority t h =
-      let one = responses-response_same s events Priority s here in
-      record {
-        reservation = h.reservation ∙ sym (responses-reservation-priority s events s);
-        priority = omega (arith, one, h.priority);
-      }
+  tills-response_same : (phase : PhaseType) (cost : ℕ) (t : GrantHoldings) → AreGrantTills events s t
+      → AreGrantTills (events ++ Response s phase cost ∷ []) s (tills_after_response phase cost t)
+  tills-response_same Reservation cost t h = record {
+    reservation = phase-response_same Reservation cost t.reservation h.reservation;
+    priority = record {
+      grants = h.priority.grants ∙ sym (responses-priority-reservation s events s cost);
+      cost = h.priority.cost ∙ sym (response_costs-priority-reservation s events s cost);
+    };
+  }
+  tills-response_same Priority cost t h = record {
+    reservation = record {
+      grants = h.reservation.grants ∙ sym (responses-reservation-priority s events s cost);
+      cost = h.reservation.cost ∙ sym (response_costs-reservation-priority s events s cost);
+    };
+    priority = phase-response_same Priority cost t.priority h.priority;
+  }
 
-  tills-response_other : (q : ServerId) (phase : PhaseType) (t : GrantHoldings) → (q.0 == s.0) ≡ false → AreGrantTills events s t
-      → AreGrantTills (events ++ Response q phase ∷ []) s t
-  tills-response_other q phase t there h = record {
-    reservation = h.reservation ∙ sym (responses-response_other s events Reservation q phase there);
-    priority = h.priority ∙ sym (responses-response_other s events Priority q phase there);
+  tills-response_other : (q : ServerId) (phase : PhaseType) (cost : ℕ) (t : GrantHoldings) → (q.0 == s.0) ≡ false → AreGrantTills events s t
+      → AreGrantTills (events ++ Response q phase cost ∷ []) s t
+  tills-response_other q phase cost t there h = record {
+    reservation = phase-response_other q phase cost Reservation t.reservation there h.reservation;
+    priority = phase-response_other q phase cost Priority t.priority there h.priority;
   }
 
 module _ (client : ℕ) (events : List TrackerEvent) (s : ServerId) where
@@ -136,22 +167,22 @@ module _ (client : ℕ) (events : List TrackerEvent) (s : ServerId) where
     held = tills-skip events s q d.held h.held;
   }
 
-  pub IsDesk-response_same : (phase : PhaseType) (d : ServerSide) → IsDesk client events s d
-      → IsDesk client (events ++ Response s phase ∷ []) s (side_after_response phase d)
-  IsDesk-response_same phase d h = record {
+  pub IsDesk-response_same : (phase : PhaseType) (cost : ℕ) (d : ServerSide) → IsDesk client events s d
+      → IsDesk client (events ++ Response s phase cost ∷ []) s (side_after_response phase cost d)
+  IsDesk-response_same phase cost d h = record {
     its_client = h.its_client;
     its_server = h.its_server;
-    books = books-response events s s phase d.books h.books;
-    held = tills-response_same events s phase d.held h.held;
+    books = books-response events s s phase cost d.books h.books;
+    held = tills-response_same events s phase cost d.held h.held;
   }
 
-  pub IsDesk-response_other : (phase : PhaseType) (q : ServerId) (d : ServerSide) → (s.0 == q.0) ≡ false → IsDesk client events q d
-      → IsDesk client (events ++ Response s phase ∷ []) q d
-  IsDesk-response_other phase q d there h = record {
+  pub IsDesk-response_other : (phase : PhaseType) (cost : ℕ) (q : ServerId) (d : ServerSide) → (s.0 == q.0) ≡ false → IsDesk client events q d
+      → IsDesk client (events ++ Response s phase cost ∷ []) q d
+  IsDesk-response_other phase cost q d there h = record {
     its_client = h.its_client;
     its_server = h.its_server;
-    books = books-response events q s phase d.books h.books;
-    held = tills-response_other events q s phase d.held there h.held;
+    books = books-response events q s phase cost d.books h.books;
+    held = tills-response_other events q s phase cost d.held there h.held;
   }
 
 -- one desk is replaced, and what the others keep stays
@@ -183,6 +214,13 @@ found {S} items s i x place within is =
       within = omega (arith, place, within, length-map items f);
       seen = rw (← place) (get_or-map f items i x no_side within ∙ ap f (sym is));
     }
+
+-- the held tills of a phase of that desk
+pub held_seen : {S : Type 0} {items : List (ServerDesk S)} {s : ServerId} {desk : ServerDesk S} {held : PhaseHoldings} {given phase : PhaseType}
+    → IsDeskOf items s desk → given ≡ phase → held ≡ tills_in given (server_side desk).held
+    → held ≡ tills_in phase (desk_at (map server_side items) s).held
+held_seen {desk = desk} {phase = phase} at named its =
+    its ∙ ap (λ k. tills_in k (server_side desk).held) named ∙ ap (λ (d : ServerSide). tills_in phase d.held) (sym at.seen)
 
 -- a write at one desk, as it is seen
 pub desks-set : {S : Type 0} (move : ServerSide → ServerSide) (items : List (ServerDesk S)) (s : ServerId) (i : ℕ) (old new : ServerDesk S)

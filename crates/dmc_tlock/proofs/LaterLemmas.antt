@@ -1,20 +1,21 @@
 -- What each call leaves as it was.
-use Rattle.std.proofs.Common.{◌≤◌, length, refl, arith}
+use Rattle.std.proofs.Common.{ℕ, ◌≤◌, length, refl, arith}
 use Rattle.dmc_types.specs.declared.ids.ServerId.{ServerId}
 use Rattle.dmc_types.specs.declared.config.PhaseType.{PhaseType}
 use Rattle.dmc_types.specs.declared.config.PhaseType.TheVariants.{Reservation, Priority}
+use Rattle.dmc_ledger.specs.Bundles.{UnitValue}
 use Rattle.dmc_shared.specs.Later.{side_numbers}
 use Rattle.dmc_shared.proofs.LaterLemmas.{seen_set}
 use Rattle.dmc_tlock.specs.BookState.{BookState, no_side}
-use Rattle.dmc_tlock.specs.Entries.{book_after_response, book_after_skip, book_after_stamp}
+use Rattle.dmc_tlock.specs.Entries.{server_of, book_after_response, book_after_skip, book_after_stamp, book_after_unit}
 use Rattle.dmc_tlock.specs.Segments.{after_rotating}
 use Rattle.dmc_tlock.specs.Later.{IsLater, IsReleased}
 
 pub later_same : (b : BookState) → IsLater b b
 later_same b = record { client = refl; number = refl; counting = refl; most = refl; first = refl; max_events = refl; desks = refl }
 
-pub later_stamp : (s : ServerId) (b : BookState) → IsLater b (book_after_stamp s b)
-later_stamp s b = record {
+pub later_stamp : (s : ServerId) (cost : ℕ) (b : BookState) → IsLater b (book_after_stamp s cost b)
+later_stamp s cost b = record {
   client = refl;
   number = refl;
   counting = refl;
@@ -27,8 +28,8 @@ later_stamp s b = record {
 pub later_skip : (s : ServerId) (b : BookState) → IsLater b (book_after_skip s b)
 later_skip s b = record { client = refl; number = refl; counting = refl; most = refl; first = refl; max_events = refl; desks = refl }
 
-pub later_response : (s : ServerId) (phase : PhaseType) (b : BookState) → IsLater b (book_after_response s phase b)
-later_response s Reservation b = record {
+later_response : (s : ServerId) (phase : PhaseType) (cost : ℕ) (b : BookState) → IsLater b (book_after_response s phase cost b)
+later_response s Reservation cost b = record {
   client = refl;
   number = refl;
   counting = refl;
@@ -37,7 +38,7 @@ later_response s Reservation b = record {
   max_events = refl;
   desks = seen_set side_numbers b.desks s.0 _ no_side refl;
 }
-later_response s Priority b = record {
+later_response s Priority cost b = record {
   client = refl;
   number = refl;
   counting = refl;
@@ -46,6 +47,9 @@ later_response s Priority b = record {
   max_events = refl;
   desks = seen_set side_numbers b.desks s.0 _ no_side refl;
 }
+
+pub later_unit : (unit : UnitValue) (b : BookState) → IsLater b (book_after_unit unit b)
+later_unit unit b = later_response (server_of unit) unit.phase unit.cost b
 
 pub released_same : (b : BookState) → IsReleased b b
 released_same b = record { client = refl; number = refl; tracker = refl; events = refl; first = omega arith; max_events = refl; desks = refl }

@@ -1,3 +1,4 @@
+pub mod CarriedLemmas
 pub mod ConsistentLemmas
 pub mod DeskLemmas
 pub mod ForCallers

@@ -3,6 +3,7 @@ use Rattle.std.proofs.Common.{◌≡◌, ℕ, ◌<◌, ◌≤◌, ◌^◌, List,
 use Rattle.std.specs.Prelude.{sum_by}
 use Rattle.std.proofs.lemmas.List.Sums.{sum_by-cons}
 use Rattle.std.proofs.lemmas.List.{get_or-map, length-map, length-replicate}
+use Rattle.dmc_types.specs.Limits.{max_completions}
 use Rattle.dmc_types.specs.declared.ids.ServerId.{ServerId}
 use Rattle.dmc_types.specs.declared.config.Counting.{Counting}
 use Rattle.dmc_tracker.specs.Numbers.{no_numbers, new_numbers, RepresentsEvents}
@@ -45,7 +46,7 @@ opened_desk client s n = record {
     delta = record { total = refl; gathered = refl; open_tills = refl };
     rho = record { total = refl; gathered = refl; open_tills = refl };
   };
-  held = record { reservation = refl; priority = refl };
+  held = record { reservation = record { grants = refl; cost = refl }; priority = record { grants = refl; cost = refl } };
 }
 
 none_responded : (desks : List ServerSide) → ((k : ℕ) → k < length desks → responded (get_or desks k no_side) ≡ 0) → sum_by responded desks ≡ 0
@@ -56,9 +57,9 @@ none_responded (d ∷ ds) none =
     omega (arith, sum_by-cons responded d ds, first, rest)
 
 pub IsConsistent-new : (client : ℕ) (counting : Counting) (most max_events : ℕ) (desks : List ServerSide) → AreNew client desks
-    → RepresentsEvents (new_numbers counting most (length desks)) [] → 0 < max_events → max_events ≤ 2 ^ 30
+    → RepresentsEvents (new_numbers counting most (length desks)) [] → most ≤ max_completions → 0 < max_events → max_events ≤ 2 ^ 30
     → IsConsistent (new_book_state client counting most max_events desks)
-IsConsistent-new client counting most max_events desks new represents some limit =
+IsConsistent-new client counting most max_events desks new represents countable some limit =
     let opened : List ServerSide = map side_after_opening desks in
     let tracked = IsTracked-nil counting in
     let servers : length opened ≡ length (new_numbers counting most (length desks)).servers =
@@ -67,6 +68,7 @@ IsConsistent-new client counting most max_events desks new represents some limit
       balanced = balanced (new_book_state client counting most max_events desks) represents tracked servers;
       tracked = tracked;
       represents = represents;
+      counted = record { limit = countable; completions = omega arith; sent = λ s within. omega arith };
       desks = λ s within.
           let inside : s.0 < length desks = omega (arith, length-map desks side_after_opening) in
           let made = new s inside in

@@ -1,58 +1,87 @@
 -- What is read off a consistent book's tracker and desk is what its list has.
 use Rattle.std.proofs.Common.{◌≡◌, ℕ, ◌+◌, ◌<◌, ◌≤◌, List, length, ap, ◌∙◌, arith}
+use Rattle.dmc_types.specs.Limits.{max_completions}
 use Rattle.dmc_types.specs.Values.{Counts}
 use Rattle.dmc_types.specs.declared.ids.ServerId.{ServerId}
 use Rattle.dmc_types.specs.declared.config.Counting.{Counting}
 use Rattle.dmc_types.specs.declared.config.Counting.TheVariants.{All, Others}
 use Rattle.dmc_tracker.specs.declared.event.TrackerEvent.{TrackerEvent}
-use Rattle.dmc_tracker.specs.TrackerList.{plus, completions, others, stamps}
-use Rattle.dmc_tracker.specs.Numbers.{Numbers, ServerNumbers, numbers_at}
+use Rattle.dmc_tracker.specs.TrackerList.{plus, completions, others, sent, IsTracked}
+use Rattle.dmc_tracker.specs.Numbers.{ServerNumbers, numbers_at}
 use Rattle.dmc_tracker.proofs.ForCallers.{completions-by_server}
-use Rattle.dmc_ledger.specs.Bundles.{ServerSide, StampHoldings}
+use Rattle.dmc_ledger.specs.Bundles.{StampHoldings}
 use Rattle.dmc_ledger.specs.Moves.{AreWithin}
 use Rattle.dmc_tlock.specs.BookState.{BookState, desk_at}
-use Rattle.dmc_tlock.specs.Consistent.{due, IsConsistent}
-use Rattle.dmc_tlock.specs.Status.{pair_of, IsStatusOf, IsWithin, AreSums}
-use Rattle.dmc_tlock.specs.internal.Status.{IsReadOff}
+use Rattle.dmc_tlock.specs.Consistent.{due, responded, IsConsistent}
+use Rattle.dmc_tlock.specs.Status.{pair_of, own_costs, IsStatusOf, IsWithin, AreSums}
+use Rattle.dmc_tlock.specs.internal.Status.{IsReadable, IsElsewhere, IsOwn, IsReadOff}
 use Rattle.dmc_tlock.specs.declared.status.TrackStatus.{TrackStatus}
+use Rattle.dmc_tlock.proofs.CarriedLemmas.{stamp_costs-sent}
 
 same_pair : (p q : ℕ × ℕ) → p.0 ≡ q.0 → p.1 ≡ q.1 → p ≡ q
 same_pair p q a b = ap (λ x. (x, p.1)) a ∙ ap (λ y. (q.0, y)) b
 
--- what `read_status` may be asked of
-pub record IsReadable (tracker : Numbers) (desk : ServerSide) (s : ServerId) : Type 0 where
-  pub within : s.0 < length tracker.servers
-  pub all : desk.held.reservation.amount + desk.held.priority.amount ≤ tracker.completions.delta
-  pub constraint : desk.held.reservation.amount ≤ tracker.completions.rho
+-- in `Others` the completions at the other servers are among what is sent, skipped and pending, which is the rest
+elsewhere_in : (counting : Counting) (s : ServerId) (events : List TrackerEvent) (completed responded most : ℕ) (server : ServerNumbers)
+    → IsTracked counting events → server.sent ≡ sent s events
+    → plus (plus server.sent server.skipped) server.pending ≡ due counting s events → completed ≡ (others s events).delta + responded
+    → completed ≤ most → (sent s events).delta ≤ most → most ≤ max_completions → IsElsewhere counting completed responded server
+elsewhere_in All s events completed responded most server tracked its sum parts few sent_few limit = tt
+elsewhere_in Others s events completed responded most server tracked its sum parts few sent_few limit =
+    let all = ap (λ (x : Counts). x.delta) sum in
+    let own = stamp_costs-sent s events tracked in
+    (omega (arith, all, parts), omega (arith, all, parts, few, own, sent_few, limit))
+
+-- what is the rest are the costs of the stamps
+own_read : (counting : Counting) (s : ServerId) (events : List TrackerEvent) (sent skipped pending : Counts) (status : TrackStatus)
+    → plus (plus sent skipped) pending ≡ due counting s events → status.sent ≡ pair_of sent → status.skipped ≡ pair_of skipped
+    → status.pending ≡ pair_of pending → status.others ≡ pair_of (others s events) → IsOwn counting status
+    → status.own ≡ own_costs counting s events
+own_read All s events sent skipped pending status sum a k b o own = own
+own_read Others s events sent skipped pending status sum a k b o own =
+    let all = ap (λ (x : Counts). x.delta) sum in
+    let rest = rw (a, k, b, o) at own in
+    omega (arith, all, rest)
 
 module _ (b : BookState) (s : ServerId) (within : s.0 < length b.desks) (h : IsConsistent b) where
   -- the completions are those of the other servers and what the desk's tills hold
-  completed_delta : b.tracker.completions.delta ≡ (others s b.events).delta + ((desk_at b.desks s).held.reservation.amount + (desk_at b.desks s).held.priority.amount)
+  completed_delta : b.tracker.completions.delta ≡ (others s b.events).delta + responded (desk_at b.desks s)
   completed_delta =
       let held = (h.desks s within).held in
-      omega (arith, ap (λ (x : Counts). x.delta) (completions-by_server b.events s), ap (λ (x : Counts). x.delta) h.represents.completed, held.reservation, held.priority)
+      omega (arith, ap (λ (x : Counts). x.delta) (completions-by_server b.events s), ap (λ (x : Counts). x.delta) h.represents.completed, held.reservation.cost, held.priority.cost)
 
-  completed_rho : b.tracker.completions.rho ≡ (others s b.events).rho + (desk_at b.desks s).held.reservation.amount
+  completed_rho : b.tracker.completions.rho ≡ (others s b.events).rho + (desk_at b.desks s).held.reservation.cost.amount
   completed_rho =
-      omega (arith, ap (λ (x : Counts). x.rho) (completions-by_server b.events s), ap (λ (x : Counts). x.rho) h.represents.completed, (h.desks s within).held.reservation)
+      omega (arith, ap (λ (x : Counts). x.rho) (completions-by_server b.events s), ap (λ (x : Counts). x.rho) h.represents.completed, (h.desks s within).held.reservation.cost)
 
   pub readable : IsReadable b.tracker (desk_at b.desks s) s
-  readable = record {
-    within = omega (arith, h.servers);
-    all = omega (arith, completed_delta);
-    constraint = omega (arith, completed_rho);
-  }
+  readable =
+      let inside : s.0 < length b.tracker.servers = omega (arith, h.servers) in
+      let its = ap (λ (x : ServerNumbers). x.sent) (h.represents.each s inside) in
+      let few : b.tracker.completions.delta ≤ b.tracker.most = rw h.represents.completed h.counted.completions in
+      record {
+        within = inside;
+        all = omega (arith, completed_delta);
+        constraint = omega (arith, completed_rho);
+        elsewhere = elsewhere_in b.tracker.counting s b.events b.tracker.completions.delta (responded (desk_at b.desks s)) b.tracker.most
+            (numbers_at b.tracker s) h.tracked its (h.balanced s within) completed_delta few (h.counted.sent s within) h.counted.limit;
+      }
 
   pub IsStatusOf-read : (status : TrackStatus) → IsReadOff b.tracker (desk_at b.desks s) s status → IsStatusOf b s status
-  IsStatusOf-read status t = record {
-    sent = t.sent;
-    skipped = t.skipped;
-    pending = t.pending;
-    completions = t.completions;
-    counting = t.counting;
-    stamps = t.stamps ∙ (h.desks s within).books.stamps.total;
-    others = same_pair status.others _ (omega (arith, t.others_all, completed_delta)) (omega (arith, t.others_constraint, completed_rho));
-  }
+  IsStatusOf-read status t =
+      let numbers = numbers_at b.tracker s in
+      let elsewhere : status.others ≡ pair_of (others s b.events) =
+      same_pair status.others _ (omega (arith, t.others_all, completed_delta)) (omega (arith, t.others_constraint, completed_rho)) in
+      record {
+        sent = t.sent;
+        skipped = t.skipped;
+        pending = t.pending;
+        completions = t.completions;
+        counting = t.counting;
+        stamps = t.stamps ∙ (h.desks s within).books.stamps.total;
+        own = own_read b.tracker.counting s b.events numbers.sent numbers.skipped numbers.pending status (h.balanced s within) t.sent t.skipped t.pending elsewhere t.own;
+        others = elsewhere;
+      }
 
   pub IsWithin-read : (tills : StampHoldings) (status : TrackStatus) → IsReadOff b.tracker (desk_at b.desks s) s status
       → AreWithin tills (desk_at b.desks s).books → IsWithin tills status
@@ -71,7 +100,7 @@ module _ (b : BookState) (s : ServerId) (within : s.0 < length b.desks) (h : IsC
 -- the sums of what is told
 sums_read : (counting : Counting) (s : ServerId) (events : List TrackerEvent) (sent skipped pending : Counts) (status : TrackStatus)
     → status.counting ≡ counting → plus (plus sent skipped) pending ≡ due counting s events → status.sent ≡ pair_of sent
-    → status.skipped ≡ pair_of skipped → status.pending ≡ pair_of pending → status.completions ≡ pair_of (completions events) → status.stamps ≡ stamps s events
+    → status.skipped ≡ pair_of skipped → status.pending ≡ pair_of pending → status.completions ≡ pair_of (completions events) → status.own ≡ own_costs counting s events
     → status.others ≡ pair_of (others s events) → AreSums status
 sums_read All s events sent skipped pending status form sum a k b c n o =
     let all = ap (λ (x : Counts). x.delta) sum in
@@ -86,4 +115,4 @@ pub AreSums-status : (b : BookState) (s : ServerId) → s.0 < length b.desks →
     → AreSums status
 AreSums-status b s within h status is =
     sums_read b.tracker.counting s b.events (numbers_at b.tracker s).sent (numbers_at b.tracker s).skipped (numbers_at b.tracker s).pending
-    status is.counting (h.balanced s within) is.sent is.skipped is.pending (is.completions ∙ ap pair_of h.represents.completed) is.stamps is.others
+    status is.counting (h.balanced s within) is.sent is.skipped is.pending (is.completions ∙ ap pair_of h.represents.completed) is.own is.others

@@ -4,7 +4,7 @@ use Rattle.dmc_types.specs.declared.ids.ServerId.{ServerId}
 use Rattle.dmc_tracker.specs.declared.event.TrackerEvent.{TrackerEvent}
 use Rattle.dmc_tracker.specs.Numbers.{Numbers}
 use Rattle.dmc_ledger.specs.Accounts.{no_account, no_holding}
-use Rattle.dmc_ledger.specs.Bundles.{ServerSide, StampHoldings}
+use Rattle.dmc_ledger.specs.Bundles.{ServerSide, StampHoldings, PhaseHoldings}
 use Rattle.dmc_shared.specs.Segmented.{Segmented}
 
 -- the client, the numbers of its tracker, the number of its list in the set-up, the list of its stamps, skips and responses, how many of them were released, how many
@@ -35,6 +35,9 @@ pub record LockValue : Type 0 where
   pub client : ℕ
 
 -- the defaults of a place without tills or a desk
+abbrev pub no_grants : PhaseHoldings
+no_grants = record { grants = no_holding; cost = no_holding }
+
 abbrev pub no_tills : StampHoldings
 no_tills = record { stamps = no_holding; delta = no_holding; rho = no_holding }
 
@@ -43,7 +46,7 @@ no_side = record {
   client = 0;
   server = 0;
   books = record { stamps = no_account; delta = no_account; rho = no_account };
-  held = record { reservation = no_holding; priority = no_holding };
+  held = record { reservation = no_grants; priority = no_grants };
   list = None;
 }
 

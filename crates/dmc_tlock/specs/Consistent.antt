@@ -1,24 +1,25 @@
 -- What holds of every tracker book: the invariant of its type.
 use Rattle.std.specs.Prelude.{◌≡◌, ℕ, ◌+◌, ◌<◌, ◌≤◌, List, length, sum_by}
-use Rattle.dmc_types.specs.Limits.{max_events}
+use Rattle.dmc_types.specs.Limits.{max_completions, max_events}
 use Rattle.dmc_types.specs.Values.{Counts}
 use Rattle.dmc_types.specs.declared.ids.ServerId.{ServerId}
 use Rattle.dmc_types.specs.declared.config.Counting.{Counting}
 use Rattle.dmc_types.specs.declared.config.Counting.TheVariants.{All, Others}
+use Rattle.dmc_types.specs.declared.config.PhaseType.{PhaseType}
 use Rattle.dmc_types.specs.declared.config.PhaseType.TheVariants.{Reservation, Priority}
 use Rattle.dmc_tracker.specs.declared.event.TrackerEvent.{TrackerEvent}
-use Rattle.dmc_tracker.specs.TrackerList.{plus, completions, others, stamps, sent, responses, IsTracked}
+use Rattle.dmc_tracker.specs.TrackerList.{plus, completions, others, stamps, stamp_costs, sent, responses, response_costs, IsTracked}
 use Rattle.dmc_tracker.specs.Numbers.{numbers_at, RepresentsEvents}
 use Rattle.dmc_shared.specs.Segmented.{max_released}
 use Rattle.dmc_ledger.specs.Accounts.{Account, total_of}
-use Rattle.dmc_ledger.specs.Bundles.{ServerSide, StampAccounts, GrantHoldings}
+use Rattle.dmc_ledger.specs.Bundles.{ServerSide, StampAccounts, PhaseHoldings, GrantHoldings}
 use Rattle.dmc_tlock.specs.BookState.{BookState, desk_at}
 
--- what was sent to s, what was skipped and what is pending there, together: the completions; in `Others` the stamps to s
--- and the completions at the other servers
+-- what was sent to s, what was skipped and what is pending there, together: the completions; in `Others` the costs of the
+-- stamps to s and the completions at the other servers
 abbrev pub due : Counting → ServerId → List TrackerEvent → Counts
 due All s events = completions events
-due Others s events = plus (record { delta = stamps s events; rho = stamps s events }) (others s events)
+due Others s events = plus (record { delta = stamp_costs s events; rho = stamp_costs s events }) (others s events)
 
 -- sent plus skipped plus pending, of each server and in both counts
 abbrev pub IsBalanced : BookState → Type 0
@@ -39,10 +40,14 @@ pub record AreStampBooks (events : List TrackerEvent) (s : ServerId) (books : St
   pub delta : IsBook (sent s events).delta 0 2 books.delta
   pub rho : IsBook (sent s events).rho 0 2 books.rho
 
--- the held grant tills of s are its responses of each phase
+-- the held tills of a phase of s are its responses, in number and in cost
+pub record ArePhaseTills (events : List TrackerEvent) (s : ServerId) (phase : PhaseType) (tills : PhaseHoldings) : Type 0 where
+  pub grants : tills.grants.amount ≡ responses s phase events
+  pub cost : tills.cost.amount ≡ response_costs s phase events
+
 pub record AreGrantTills (events : List TrackerEvent) (s : ServerId) (tills : GrantHoldings) : Type 0 where
-  pub reservation : tills.reservation.amount ≡ responses s Reservation events
-  pub priority : tills.priority.amount ≡ responses s Priority events
+  pub reservation : ArePhaseTills events s Reservation tills.reservation
+  pub priority : ArePhaseTills events s Priority tills.priority
 
 -- the desk of s
 pub record IsDesk (client : ℕ) (events : List TrackerEvent) (s : ServerId) (desk : ServerSide) : Type 0 where
@@ -51,17 +56,24 @@ pub record IsDesk (client : ℕ) (events : List TrackerEvent) (s : ServerId) (de
   pub books : AreStampBooks events s desk.books
   pub held : AreGrantTills events s desk.held
 
--- the responses that a desk holds, of both phases
+-- what the responses that a desk holds cost, of both phases
 abbrev pub responded : ServerSide → ℕ
-responded desk = desk.held.reservation.amount + desk.held.priority.amount
+responded desk = desk.held.reservation.cost.amount + desk.held.priority.cost.amount
 
--- the two sums; each stamp of the list carries what the list demands; the tracker's numbers are those of the list; the desk
--- of each server; the desks hold all completions, so each response is of a server that has a desk; and not too many entries
--- were released, or are kept; and some may be kept
+-- the tracker counts no further than its `most`, which is within the limit: the completions, and the deltas sent to each server
+pub record AreCounted (b : BookState) : Type 0 where
+  pub limit : b.tracker.most ≤ max_completions
+  pub completions : (completions b.events).delta ≤ b.tracker.most
+  pub sent : (s : ServerId) → s.0 < length b.desks → (sent s b.events).delta ≤ b.tracker.most
+
+-- the two sums; each stamp of the list carries what the list demands; the tracker's numbers are those of the list, and within
+-- its `most`; the desk of each server; the desks hold all completions, so each response is of a server that has a desk; and not
+-- too many entries were released, or are kept; and some may be kept
 pub record IsConsistent (b : BookState) : Type 0 where
   pub balanced : IsBalanced b
   pub tracked : IsTracked b.tracker.counting b.events
   pub represents : RepresentsEvents b.tracker b.events
+  pub counted : AreCounted b
   pub desks : (s : ServerId) → s.0 < length b.desks → IsDesk b.client b.events s (desk_at b.desks s)
   pub servers : length b.desks ≡ length b.tracker.servers
   pub completed : (completions b.events).delta ≡ sum_by responded b.desks

@@ -2,12 +2,13 @@
 ghost use Rattle.std.specs.Prelude.{◌≡◌, ◌≢◌, ◌+◌, ◌<◌, ◌≤◌, ◌↔◌, drop, length, map, IfNone, IfOk, IfErr, IfSome, IsSome, OnOk, OnErr, OnSome, IsOk, IsErrAnd, IsErrOf, IsTrue};
 ghost use Rattle.dmc_types.specs.declared.ids.ServerId.{ServerId};
 ghost use Rattle.dmc_tracker.specs.Numbers.{IsFullAt, next_params};
+ghost use Rattle.dmc_tracker.specs.TrackerList.{completions};
 ghost use Rattle.dmc_shared.specs.Segmented.{max_released};
-ghost use Rattle.dmc_ledger.specs.Bundles.{stamp_holdings, server_side};
-ghost use Rattle.dmc_ledger.specs.Moves.{AreOf, tills_after_stamp, till_in, with_less};
+ghost use Rattle.dmc_ledger.specs.Bundles.{HoldsGrant, phase_holdings, stamp_holdings, server_side};
+ghost use Rattle.dmc_ledger.specs.Moves.{AreOf, tills_after_stamp, without_grant};
 ghost use Rattle.dmc_tlock.specs.BookState.{desk_at, tills_at};
 ghost use Rattle.dmc_tlock.specs.Consistent.{IsConsistent};
-ghost use Rattle.dmc_tlock.specs.Entries.{book_after_stamp, book_after_skip, book_after_response, AreTillsOf, IsTillOf};
+ghost use Rattle.dmc_tlock.specs.Entries.{book_after_stamp, book_after_skip, book_after_unit, AreTillsOf, IsUnitOf};
 ghost use Rattle.dmc_tlock.specs.Opening.{AreNew, AreBookLimits, new_book_state, new_pass};
 ghost use Rattle.dmc_tlock.specs.Segments.{after_rotating, segment_of};
 ghost use Rattle.dmc_tlock.specs.Settling.{IsOwn, AreGathered, IsSettledDesk, held_of};
@@ -15,19 +16,20 @@ ghost use Rattle.dmc_tlock.specs.Status.{IsStatusOf, IsWithin, AreSums};
 
 use crate::desk::{audit_tills, find_desk, find_grants, issue_stamp, take_unit};
 use crate::entry::{EntryList, record_response, record_skip, record_stamp};
-use crate::fault::{EntryFault, TillFault};
+use crate::fault::{EntryFault, RespondFault, TillFault};
 use crate::parts::{Parts, make_parts};
 use crate::pass::{ClientPass, open_desks};
 use crate::segment::TrackerSegment;
 use crate::settled::{StampsHeld, TrackerSettled, gather_pass, is_own};
 use crate::status::{TrackStatus, read_status};
-use dmc_ledger::bundle::StampTills;
+use dmc_ledger::bundle::{PhaseTills, StampTills};
 use dmc_ledger::desk::ServerDesk;
 use dmc_ledger::setup::Setup;
 use dmc_ledger::stamp::{Stamp, make_stamp};
-use dmc_ledger::till::Till;
+use dmc_ledger::unit::Unit;
 use dmc_tracker::tracker::{MakeFault, ServiceTracker};
-use dmc_types::config::{Counting, PhaseType};
+use dmc_types::config::Counting;
+use dmc_types::cost::Cost;
 use dmc_types::ids::{ClientId, ServerId};
 use std::alloc::Global;
 use std::marker::Model;
@@ -36,7 +38,7 @@ use std::marker::Model;
 ///
 /// What holds of every book is the invariant of its type (`IsConsistent`; `laws::book_is_consistent` gives it): for each
 /// server the two sums hold, the stamp books total what the list sent there, and the held grant tills are its responses of
-/// each phase.
+/// each phase, in number and in cost.
 #[derive(Drop)]
 pub struct TrackerBook<S: Setup> {
     client: ClientId,
@@ -119,36 +121,37 @@ impl<S: Setup> TrackerBook<S> {
         Ok((book, ClientPass { tills }))
     }
 
-    /// Stamps a request to a server, and puts the stamp into the tills: one unit, its delta and its rho.
+    /// Stamps a request of this cost to a server, and puts the stamp into the tills: one unit, its delta and its rho.
     ///
     /// Refused `NoServer`; `Stranger` if the tills are not of the server's stamp books; `TrackFull` as the tracker says
     /// (`ServiceTracker::can_stamp`); `HistoryFull`; `Memory`.
     pub fn stamp(
         &mut self,
         server: ServerId,
+        cost: Cost,
         tills: &mut StampTills<S>,
     ) -> Result<Stamp, EntryFault>
         ensures stamp { IfOk result (λ stamp.
-            stamp ≡ record { client = self.old.client; server = server.0; params = next_params self.old.tracker server }) }
-        ensures book { OnOk result (self.new ≡ book_after_stamp server self.old) }
+            stamp ≡ record { client = self.old.client; server = server.0; params = next_params self.old.tracker server cost }) }
+        ensures book { OnOk result (self.new ≡ book_after_stamp server cost self.old) }
         ensures tills { OnOk result
-            (stamp_holdings tills.new ≡ tills_after_stamp (next_params self.old.tracker server) (stamp_holdings tills.old)) }
+            (stamp_holdings tills.new ≡ tills_after_stamp (next_params self.old.tracker server cost) (stamp_holdings tills.old)) }
         ensures kept { OnErr result (self.new ≡ self.old) }
         ensures tills_kept { OnErr result (tills.new ≡ tills.old) }
         ensures no_server { IsErrOf result EntryFault.NoServer ↔ (length self.old.desks ≤ server.0) }
         ensures stranger { IsErrOf result EntryFault.Stranger ↔ ((server.0 < length self.old.desks)
             × (AreOf (stamp_holdings tills.old) (desk_at self.old.desks server).books → ⊥)) }
         ensures track_full { IsErrOf result EntryFault.TrackFull
-            ↔ (AreTillsOf self.old server (stamp_holdings tills.old) × IsFullAt self.old.tracker server) }
+            ↔ (AreTillsOf self.old server (stamp_holdings tills.old) × IsFullAt self.old.tracker server cost) }
         ensures history_full { IsErrOf result EntryFault.HistoryFull
             ↔ (AreTillsOf self.old server (stamp_holdings tills.old)
-            × (IsFullAt self.old.tracker server → ⊥)
+            × (IsFullAt self.old.tracker server cost → ⊥)
             × (length self.old.events ≡ self.old.first + self.old.max_events)) }
     {
         let index = find_desk(&self.desks, server, tills)?;
-        self.tracker.can_stamp(server)?;
+        self.tracker.can_stamp(server, cost)?;
         self.list.reserve_one()?;
-        let params = record_stamp(&mut self.tracker, &mut self.list, server);
+        let params = record_stamp(&mut self.tracker, &mut self.list, server, cost);
         issue_stamp(&mut self.desks[index], tills, params);
         Ok(make_stamp(self.client, server, params, tills))
     }
@@ -174,37 +177,63 @@ impl<S: Setup> TrackerBook<S> {
         Ok(())
     }
 
-    /// Counts a response of a server to a request that it granted in a phase, and takes its unit from the till.
+    /// Counts a response to the grant of a unit, of its server, in its phase and of its cost, and takes the grant from the tills.
     ///
-    /// Refused `NoServer`; `Stranger` if the till is not of the server's grants in the phase; `TrackFull` if the
-    /// completions are the tracker's `most`; `HistoryFull`; `Memory`.
-    pub fn respond(
-        &mut self,
-        server: ServerId,
-        phase: PhaseType,
-        till: &mut Till<S>,
-    ) -> Result<(), EntryFault>
-        requires { 0 < till.old.amount }
-        ensures book { OnOk result (self.new ≡ book_after_response server phase self.old) }
-        ensures till { OnOk result (till.new ≡ with_less 1 till.old) }
+    /// Refused `NoServer`; `Stranger` if the unit is another client's, or the tills are not of the client's grants at its server
+    /// in its phase; `TrackFull` if the completions would pass the tracker's `most`; `HistoryFull`; `Memory`. Each refusal hands
+    /// the unit back.
+    pub fn respond(&mut self, unit: Unit, tills: &mut PhaseTills<S>) -> Result<(), RespondFault>
+        requires { HoldsGrant (phase_holdings tills.old) unit.cost }
+        ensures book { OnOk result (self.new ≡ book_after_unit unit self.old) }
+        ensures tills { OnOk result (phase_holdings tills.new ≡ without_grant unit.cost (phase_holdings tills.old)) }
+        ensures handed_back { IfErr result (λ fault. fault.unit ≡ unit) }
         ensures kept { OnErr result (self.new ≡ self.old) }
-        ensures till_kept { OnErr result (till.new ≡ till.old) }
-        ensures no_server { IsErrOf result EntryFault.NoServer ↔ (length self.old.desks ≤ server.0) }
-        ensures stranger { IsErrOf result EntryFault.Stranger ↔ ((server.0 < length self.old.desks)
-            × (till.old.number ≡ (till_in phase (desk_at self.old.desks server).held).number → ⊥)) }
-        ensures track_full { IsErrOf result EntryFault.TrackFull
-            ↔ (IsTillOf self.old server phase till.old
-            × (self.old.tracker.completions.delta ≡ self.old.tracker.most)) }
-        ensures history_full { IsErrOf result EntryFault.HistoryFull
-            ↔ (IsTillOf self.old server phase till.old
-            × (self.old.tracker.completions.delta ≡ self.old.tracker.most → ⊥)
+        ensures tills_kept { OnErr result (phase_holdings tills.new ≡ phase_holdings tills.old) }
+        ensures no_server { IsErrAnd result (λ fault. fault.cause ≡ EntryFault.NoServer) ↔ (length self.old.desks ≤ unit.server) }
+        ensures stranger { IsErrAnd result (λ fault. fault.cause ≡ EntryFault.Stranger)
+            ↔ ((unit.server < length self.old.desks) × (IsUnitOf self.old unit (phase_holdings tills.old) → ⊥)) }
+        ensures track_full { IsErrAnd result (λ fault. fault.cause ≡ EntryFault.TrackFull)
+            ↔ (IsUnitOf self.old unit (phase_holdings tills.old)
+            × (self.old.tracker.most < self.old.tracker.completions.delta + unit.cost)) }
+        ensures history_full { IsErrAnd result (λ fault. fault.cause ≡ EntryFault.HistoryFull)
+            ↔ (IsUnitOf self.old unit (phase_holdings tills.old)
+            × (self.old.tracker.completions.delta + unit.cost ≤ self.old.tracker.most)
             × (length self.old.events ≡ self.old.first + self.old.max_events)) }
     {
-        let index = find_grants(&self.desks, server, phase, till)?;
-        self.tracker.can_respond(server)?;
+        match self.respond_to(&unit, tills) {
+            Ok(()) => Ok(()),
+            Err(cause) => Err(RespondFault { unit, cause }),
+        }
+    }
+
+    /// Counts a response to the grant of a unit that is lent: see `respond`.
+    pub(crate) fn respond_to(
+        &mut self,
+        unit: &Unit,
+        tills: &mut PhaseTills<S>,
+    ) -> Result<(), EntryFault>
+        requires { HoldsGrant (phase_holdings tills.old) unit.now.cost }
+        ensures book { OnOk result (self.new ≡ book_after_unit unit.now self.old) }
+        ensures tills { OnOk result (phase_holdings tills.new ≡ without_grant unit.now.cost (phase_holdings tills.old)) }
+        ensures kept { OnErr result (self.new ≡ self.old) }
+        ensures tills_kept { OnErr result (phase_holdings tills.new ≡ phase_holdings tills.old) }
+        ensures no_server { IsErrOf result EntryFault.NoServer ↔ (length self.old.desks ≤ unit.now.server) }
+        ensures stranger { IsErrOf result EntryFault.Stranger
+            ↔ ((unit.now.server < length self.old.desks) × (IsUnitOf self.old unit.now (phase_holdings tills.old) → ⊥)) }
+        ensures track_full { IsErrOf result EntryFault.TrackFull
+            ↔ (IsUnitOf self.old unit.now (phase_holdings tills.old)
+            × (self.old.tracker.most < self.old.tracker.completions.delta + unit.now.cost)) }
+        ensures history_full { IsErrOf result EntryFault.HistoryFull
+            ↔ (IsUnitOf self.old unit.now (phase_holdings tills.old)
+            × (self.old.tracker.completions.delta + unit.now.cost ≤ self.old.tracker.most)
+            × (length self.old.events ≡ self.old.first + self.old.max_events)) }
+    {
+        let index = find_grants(&self.desks, self.client, unit, tills)?;
+        let (server, phase, cost) = (unit.server(), unit.phase(), unit.cost());
+        self.tracker.can_respond(server, cost)?;
         self.list.reserve_one()?;
-        record_response(&mut self.tracker, &mut self.list, server, phase);
-        take_unit(&mut self.desks[index], phase, till);
+        record_response(&mut self.tracker, &mut self.list, server, phase, cost);
+        take_unit(&mut self.desks[index], phase, cost, tills);
         Ok(())
     }
 
@@ -271,6 +300,14 @@ impl<S: Setup> TrackerBook<S> {
             held,
             desks,
         })
+    }
+
+    /// The costs of the completions at all servers, and of those in the constraint phase.
+    pub fn completions(&self) -> (u64, u64)
+        ensures value { result ≡ (self.now.tracker.completions.delta, self.now.tracker.completions.rho) }
+        ensures list { result ≡ ((completions self.now.events).delta, (completions self.now.events).rho) }
+    {
+        self.tracker.completions()
     }
 
     /// Which completions its stamps count.

@@ -1,18 +1,20 @@
 //! Work on one server's desk.
 ghost use Rattle.std.specs.Prelude.{◌≡◌, ◌+◌, ◌-◌, ◌<◌, ◌≤◌, ◌^◌, ◌↔◌, length, map, IsTrue, IfOk, IsErrOf};
 ghost use Rattle.dmc_ledger.specs.Accounts.{total_of};
-ghost use Rattle.dmc_ledger.specs.Bundles.{stamp_holdings, stamp_accounts, server_side};
-ghost use Rattle.dmc_ledger.specs.Moves.{AreOf, AreWithin, tills_after_stamp, till_in, with_less};
+ghost use Rattle.dmc_ledger.specs.Bundles.{HoldsGrant, phase_holdings, stamp_holdings, stamp_accounts, server_side};
+ghost use Rattle.dmc_ledger.specs.Moves.{AreOf, AreSamePhase, AreWithin, tills_after_stamp, tills_in, with_grant, without_grant};
 ghost use Rattle.dmc_tlock.specs.BookState.{desk_at};
-ghost use Rattle.dmc_tlock.specs.Entries.{side_after_stamp, side_after_response};
+ghost use Rattle.dmc_tlock.specs.Entries.{IsUnitAt, side_after_stamp, side_after_response};
 
 use crate::fault::TillFault;
-use dmc_ledger::bundle::{StampBooks, StampTills};
+use dmc_ledger::bundle::{PhaseTills, StampBooks, StampTills};
 use dmc_ledger::desk::ServerDesk;
 use dmc_ledger::setup::Setup;
-use dmc_ledger::till::{Till, shift_till};
+use dmc_ledger::till::shift_till;
+use dmc_ledger::unit::Unit;
 use dmc_types::config::PhaseType;
-use dmc_types::ids::ServerId;
+use dmc_types::cost::Cost;
+use dmc_types::ids::{ClientId, ServerId};
 use dmc_types::params::ReqParams;
 
 /// Whether the tills are of these books.
@@ -47,38 +49,46 @@ pub(crate) fn find_desk<S: Setup>(
     Ok(index)
 }
 
-/// The place of the server's desk, if the till is of the book of its grants in the phase.
+/// The place of the desk of a unit's server, if the unit is of this client, and the tills are of the client's grants there in the
+/// unit's phase.
 pub(crate) fn find_grants<S: Setup>(
     desks: &[ServerDesk<S>],
-    server: ServerId,
-    phase: PhaseType,
-    till: &Till<S>,
+    client: ClientId,
+    unit: &Unit,
+    tills: &PhaseTills<S>,
 ) -> Result<usize, TillFault>
-    ensures place { IfOk result (λ i. i ≡ server.0) }
-    ensures within { IfOk result (λ i. server.0 < length desks.now) }
-    ensures its { IfOk result (λ i. till.now.number ≡ (till_in phase (desk_at (map server_side desks.now) server).held).number) }
-    ensures no_server { IsErrOf result TillFault.NoServer ↔ (length desks.now ≤ server.0) }
+    ensures place { IfOk result (λ i. i ≡ unit.now.server) }
+    ensures within { IfOk result (λ i. unit.now.server < length desks.now) }
+    ensures its { IfOk result (λ i. IsUnitAt client.0 (map server_side desks.now) unit.now (phase_holdings tills.now)) }
+    ensures no_server { IsErrOf result TillFault.NoServer ↔ (length desks.now ≤ unit.now.server) }
     ensures stranger { IsErrOf result TillFault.Stranger
-        ↔ ((server.0 < length desks.now) × (till.now.number ≡ (till_in phase (desk_at (map server_side desks.now) server).held).number → ⊥)) }
+        ↔ ((unit.now.server < length desks.now) × (IsUnitAt client.0 (map server_side desks.now) unit.now (phase_holdings tills.now) → ⊥)) }
 {
-    let index = server.0 as usize;
+    let index = unit.server().0 as usize;
     let Some(desk) = desks.get(index) else {
         return Err(TillFault::NoServer);
     };
-    if till.number() != grant_number(desk, phase) {
+    if unit.client() != client || !are_same(tills, held_in(desk, unit.phase())) {
         return Err(TillFault::Stranger);
     }
     Ok(index)
 }
 
-/// The number of the book of a desk's grants in a phase.
-fn grant_number<S: Setup>(desk: &ServerDesk<S>, phase: PhaseType) -> u32
-    ensures { result ≡ (till_in phase (server_side desk.now).held).number }
+/// The held tills of a desk in a phase.
+fn held_in<S: Setup>(desk: &ServerDesk<S>, phase: PhaseType) -> &PhaseTills<S>
+    ensures { phase_holdings result.now ≡ tills_in phase (server_side desk.now).held }
 {
     match phase {
-        PhaseType::Reservation => desk.held.reservation.number(),
-        PhaseType::Priority => desk.held.priority.number(),
+        PhaseType::Reservation => &desk.held.reservation,
+        PhaseType::Priority => &desk.held.priority,
     }
+}
+
+/// Whether two bundles of tills are of the same books.
+fn are_same<S: Setup>(tills: &PhaseTills<S>, other: &PhaseTills<S>) -> bool
+    ensures { IsTrue result ↔ AreSamePhase (phase_holdings tills.now) (phase_holdings other.now) }
+{
+    tills.grants.number() == other.grants.number() && tills.cost.number() == other.cost.number()
 }
 
 /// Counts a stamp in the books of a desk, and puts it into the tills.
@@ -107,17 +117,33 @@ pub(crate) fn issue_stamp<S: Setup>(
     };
 }
 
-/// Moves a unit of a phase from a till into the held till of a desk.
-pub(crate) fn take_unit<S: Setup>(desk: &mut ServerDesk<S>, phase: PhaseType, till: &mut Till<S>)
-    requires its { till.old.number ≡ (till_in phase (server_side desk.old).held).number }
-    requires some { 0 < till.old.amount }
-    ensures desk { server_side desk.new ≡ side_after_response phase (server_side desk.old) }
-    ensures till { till.new ≡ with_less 1 till.old }
+/// Moves a grant of a phase with its cost from tills into the held tills of a desk.
+pub(crate) fn take_unit<S: Setup>(
+    desk: &mut ServerDesk<S>,
+    phase: PhaseType,
+    cost: Cost,
+    tills: &mut PhaseTills<S>,
+)
+    requires its { AreSamePhase (phase_holdings tills.old) (tills_in phase (server_side desk.old).held) }
+    requires holds { HoldsGrant (phase_holdings tills.old) cost }
+    ensures desk { server_side desk.new ≡ side_after_response phase cost (server_side desk.old) }
+    ensures tills { phase_holdings tills.new ≡ without_grant cost (phase_holdings tills.old) }
 {
     match phase {
-        PhaseType::Reservation => shift_till(till, &mut desk.held.reservation, 1),
-        PhaseType::Priority => shift_till(till, &mut desk.held.priority, 1),
+        PhaseType::Reservation => shift_grant(tills, &mut desk.held.reservation, cost),
+        PhaseType::Priority => shift_grant(tills, &mut desk.held.priority, cost),
     }
+}
+
+/// Moves a grant with its cost from tills to others of the same books.
+fn shift_grant<S: Setup>(from: &mut PhaseTills<S>, to: &mut PhaseTills<S>, cost: Cost)
+    requires same_books { AreSamePhase (phase_holdings from.old) (phase_holdings to.old) }
+    requires holds { HoldsGrant (phase_holdings from.old) cost }
+    ensures from { phase_holdings from.new ≡ without_grant cost (phase_holdings from.old) }
+    ensures to { phase_holdings to.new ≡ with_grant cost (phase_holdings to.old) }
+{
+    shift_till(&mut from.grants, &mut to.grants, 1);
+    shift_till(&mut from.cost, &mut to.cost, u64::from(cost.units()));
 }
 
 /// Changes nothing, and shows that the tills hold no more than their books do.

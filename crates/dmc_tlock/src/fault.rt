@@ -1,5 +1,6 @@
 //! Why a call of a tracker book is refused.
 use dmc_history::ReserveFault;
+use dmc_ledger::unit::Unit;
 use dmc_tracker::tracker::TrackFault;
 use thiserror::Error;
 
@@ -20,7 +21,7 @@ pub enum EntryFault {
     /// The tracker has no such server.
     #[error("the tracker has no such server")]
     NoServer,
-    /// A till is not of that server's books here; of a response, not of the phase's.
+    /// A till is not of that server's books here; of a response, not of the phase's, or the unit is another client's.
     #[error("a till is of other books")]
     Stranger,
     /// The call would take a count past the tracker's `most`, or a stamp's delta past 2^32-1.
@@ -32,6 +33,13 @@ pub enum EntryFault {
     /// The allocator refused a growth of the list.
     #[error("out of memory")]
     Memory,
+}
+
+/// A response that was not counted, with its unit, which may be responded with again.
+#[derive(Drop)]
+pub struct RespondFault {
+    pub unit: Unit,
+    pub cause: EntryFault,
 }
 
 impl From<TillFault> for EntryFault {

@@ -1,20 +1,20 @@
 //! A tracker book behind a lock. Each time that the lock is taken, the book is consistent: that is the invariant of its type.
-ghost use Rattle.std.specs.Prelude.{◌≡◌, ◌≢◌, ◌<◌, IfOk, OnOk, OnErr};
-ghost use Rattle.dmc_ledger.specs.Bundles.{stamp_holdings};
-ghost use Rattle.dmc_ledger.specs.Moves.{tills_after_stamp, with_less};
+ghost use Rattle.std.specs.Prelude.{◌≡◌, ◌≢◌, IfOk, IfErr, OnOk, OnErr};
+ghost use Rattle.dmc_ledger.specs.Bundles.{HoldsGrant, phase_holdings, stamp_holdings};
+ghost use Rattle.dmc_ledger.specs.Moves.{tills_after_stamp, without_grant};
 ghost use Rattle.dmc_tlock.specs.Later.{IsLater, IsReleased};
 ghost use Rattle.dmc_tlock.specs.Status.{IsWithin, AreSums};
 
 use crate::book::TrackerBook;
-use crate::fault::{EntryFault, TillFault};
+use crate::fault::{EntryFault, RespondFault, TillFault};
 use crate::segment::TrackerSegment;
 use crate::status::TrackStatus;
-use dmc_ledger::bundle::StampTills;
+use dmc_ledger::bundle::{PhaseTills, StampTills};
 use dmc_ledger::setup::Setup;
 use dmc_ledger::stamp::{Stamp, make_stamp};
-use dmc_ledger::till::Till;
+use dmc_ledger::unit::Unit;
 use dmc_shared::witness::{Lasting, NoWitness, ReleaseWitness, Witness};
-use dmc_types::config::PhaseType;
+use dmc_types::cost::Cost;
 use dmc_types::ids::{ClientId, ServerId};
 use dmc_types::params::ReqParams;
 use std::marker::Model;
@@ -46,12 +46,14 @@ impl<S: Setup, W: Witness<TrackerBook<S>>> Guarded<TrackerBook<S>, W> {
     fn stamp_params(
         &mut self,
         server: ServerId,
+        cost: Cost,
         tills: &mut StampTills<S>,
     ) -> Result<ReqParams, EntryFault>
+        ensures cost { IfOk result (λ params. params.cost ≡ cost) }
         ensures tills { IfOk result (λ params. stamp_holdings tills.new ≡ tills_after_stamp params (stamp_holdings tills.old)) }
         ensures kept { OnErr result (tills.new ≡ tills.old) }
     {
-        Ok(self.book.stamp(server, tills)?.params())
+        Ok(self.book.stamp(server, cost, tills)?.params())
     }
 
     /// Skips what is pending at a server, as the book does.
@@ -63,17 +65,12 @@ impl<S: Setup, W: Witness<TrackerBook<S>>> Guarded<TrackerBook<S>, W> {
     }
 
     /// Counts a response, as the book does.
-    fn respond(
-        &mut self,
-        server: ServerId,
-        phase: PhaseType,
-        till: &mut Till<S>,
-    ) -> Result<(), EntryFault>
-        requires { 0 < till.old.amount }
-        ensures till { OnOk result (till.new ≡ with_less 1 till.old) }
-        ensures kept { OnErr result (till.new ≡ till.old) }
+    fn respond(&mut self, unit: &Unit, tills: &mut PhaseTills<S>) -> Result<(), EntryFault>
+        requires { HoldsGrant (phase_holdings tills.old) unit.now.cost }
+        ensures tills { OnOk result (phase_holdings tills.new ≡ without_grant unit.now.cost (phase_holdings tills.old)) }
+        ensures kept { OnErr result (phase_holdings tills.new ≡ phase_holdings tills.old) }
     {
-        self.book.respond(server, phase, till)
+        self.book.respond_to(unit, tills)
     }
 }
 
@@ -130,19 +127,21 @@ impl<S: Setup, W: Witness<TrackerBook<S>>> LockedTracker<TrackerBook<S>, W> {
         }
     }
 
-    /// Stamps a request to a server, and puts the stamp into the tills: one unit, its delta and its rho.
+    /// Stamps a request of this cost to a server, and puts the stamp into the tills: one unit, its delta and its rho.
     pub fn stamp<R: Wait>(
         &self,
         rt: &R,
         server: ServerId,
+        cost: Cost,
         tills: &mut StampTills<S>,
     ) -> Result<Stamp, EntryFault>
         ensures client { IfOk result (λ stamp. stamp.client ≡ self.now.client) }
         ensures server { IfOk result (λ stamp. stamp.server ≡ server.0) }
+        ensures cost { IfOk result (λ stamp. stamp.params.cost ≡ cost) }
         ensures tills { IfOk result (λ stamp. stamp_holdings tills.new ≡ tills_after_stamp stamp.params (stamp_holdings tills.old)) }
         ensures kept { OnErr result (tills.new ≡ tills.old) }
     {
-        let params = self.guarded.lock(rt).stamp_params(server, tills)?;
+        let params = self.guarded.lock(rt).stamp_params(server, cost, tills)?;
         Ok(make_stamp(self.client, server, params, tills))
     }
 
@@ -154,19 +153,24 @@ impl<S: Setup, W: Witness<TrackerBook<S>>> LockedTracker<TrackerBook<S>, W> {
         self.guarded.lock(rt).skip(server)
     }
 
-    /// Counts a response of a server to a request that it granted in a phase, and takes its unit from the till.
+    /// Counts a response to the grant of a unit, of its server, in its phase and of its cost, and takes the grant from the tills.
+    /// A refusal hands the unit back.
     pub fn respond<R: Wait>(
         &self,
         rt: &R,
-        server: ServerId,
-        phase: PhaseType,
-        till: &mut Till<S>,
-    ) -> Result<(), EntryFault>
-        requires { 0 < till.old.amount }
-        ensures till { OnOk result (till.new ≡ with_less 1 till.old) }
-        ensures kept { OnErr result (till.new ≡ till.old) }
+        unit: Unit,
+        tills: &mut PhaseTills<S>,
+    ) -> Result<(), RespondFault>
+        requires { HoldsGrant (phase_holdings tills.old) unit.cost }
+        ensures tills { OnOk result (phase_holdings tills.new ≡ without_grant unit.cost (phase_holdings tills.old)) }
+        ensures kept { OnErr result (phase_holdings tills.new ≡ phase_holdings tills.old) }
+        ensures handed_back { IfErr result (λ fault. fault.unit ≡ unit) }
     {
-        self.guarded.lock(rt).respond(server, phase, till)
+        let counted = self.guarded.lock(rt).respond(&unit, tills);
+        match counted {
+            Ok(()) => Ok(()),
+            Err(cause) => Err(RespondFault { unit, cause }),
+        }
     }
 
     /// What its tracker counts, seen from a server, by one of the tills of the server's stamp books.

@@ -1,7 +1,8 @@
 //! What a tracker book reports.
-ghost use Rattle.std.specs.Prelude.{◌≡◌, ◌+◌, ◌<◌, ◌≤◌, length};
+ghost use Rattle.std.specs.Prelude.{◌≡◌, ◌+◌, ◌≤◌};
 ghost use Rattle.dmc_ledger.specs.Bundles.{server_side};
-ghost use Rattle.dmc_tlock.specs.internal.Status.{IsReadOff};
+ghost use Rattle.dmc_tlock.specs.Consistent.{responded};
+ghost use Rattle.dmc_tlock.specs.internal.Status.{IsReadable, IsReadOff};
 
 use dmc_ledger::desk::ServerDesk;
 use dmc_ledger::setup::Setup;
@@ -9,7 +10,8 @@ use dmc_tracker::tracker::ServiceTracker;
 use dmc_types::config::Counting;
 use dmc_types::ids::ServerId;
 
-/// What a tracker counts, seen from one server. Each pair has a count of all and one of those in the constraint phase.
+/// What a tracker counts, in units of cost, seen from one server. Each pair has a count of all and one of those in the constraint
+/// phase.
 #[derive(Clone, Copy, Debug, PartialEq, Eq)]
 pub struct TrackStatus {
     /// The deltas and the rhos that were sent to the server, summed.
@@ -22,8 +24,10 @@ pub struct TrackStatus {
     pub completions: (u64, u64),
     /// Which completions a stamp counts.
     pub counting: Counting,
-    /// The stamps to the server.
+    /// How many stamps to the server there are.
     pub stamps: u64,
+    /// What the stamps to the server count for their own requests: in the form `Others` what these cost, else 0.
+    pub own: u64,
     /// The completions at the other servers.
     pub others: (u64, u64),
 }
@@ -34,32 +38,40 @@ pub(crate) fn read_status<S: Setup>(
     desk: &ServerDesk<S>,
     server: ServerId,
 ) -> TrackStatus
-    requires within { server.0 < length tracker.now.servers }
-    requires all { (server_side desk.now).held.reservation.amount + (server_side desk.now).held.priority.amount ≤ tracker.now.completions.delta }
-    requires constraint { (server_side desk.now).held.reservation.amount ≤ tracker.now.completions.rho }
+    requires { IsReadable tracker.now (server_side desk.now) server }
     ensures { IsReadOff tracker.now (server_side desk.now) server result }
 {
     let completions = tracker.completions();
+    let sent = tracker.sent(server).unwrap();
+    let skipped = tracker.skipped(server).unwrap();
+    let pending = tracker.pending(server).unwrap();
+    let others = others_than(desk, completions);
+    let counting = tracker.counting();
+    let own = match counting {
+        Counting::All => 0,
+        Counting::Others => sent.0 + skipped.0 + pending.0 - others.0,
+    };
     TrackStatus {
-        sent: tracker.sent(server).unwrap(),
-        skipped: tracker.skipped(server).unwrap(),
-        pending: tracker.pending(server).unwrap(),
+        sent,
+        skipped,
+        pending,
         completions,
-        counting: tracker.counting(),
+        counting,
         stamps: desk.books.stamps.total(),
-        others: others_than(desk, completions),
+        own,
+        others,
     }
 }
 
 /// The completions without those at the desk's server.
 fn others_than<S: Setup>(desk: &ServerDesk<S>, completions: (u64, u64)) -> (u64, u64)
-    requires all { (server_side desk.now).held.reservation.amount + (server_side desk.now).held.priority.amount ≤ completions.0 }
-    requires constraint { (server_side desk.now).held.reservation.amount ≤ completions.1 }
-    ensures all { result.0 + ((server_side desk.now).held.reservation.amount + (server_side desk.now).held.priority.amount) ≡ completions.0 }
-    ensures constraint { result.1 + (server_side desk.now).held.reservation.amount ≡ completions.1 }
+    requires all { responded (server_side desk.now) ≤ completions.0 }
+    requires constraint { (server_side desk.now).held.reservation.cost.amount ≤ completions.1 }
+    ensures all { result.0 + responded (server_side desk.now) ≡ completions.0 }
+    ensures constraint { result.1 + (server_side desk.now).held.reservation.cost.amount ≡ completions.1 }
 {
     let (all, constraint) = completions;
-    let reservation = desk.held.reservation.amount();
-    let priority = desk.held.priority.amount();
+    let reservation = desk.held.reservation.cost.amount();
+    let priority = desk.held.priority.cost.amount();
     (all - reservation - priority, constraint - reservation)
 }

@@ -7,4 +7,4 @@ pub returns : goal.returns
 returns g c =
     let here = c.accounts.inside in
     let known = c.accounts.invariant.0 in
-    rw (← c.book.view_is, ← c.accounts.view_is) (λ phase. grants_of_desks phase (map client_side here.desks.items) known.clients_apart here.history.events known.granted)
+    rw (← c.book.view_is, ← c.accounts.view_is) (grants_of_desks (map client_side here.desks.items) known.clients_apart here.history.events known.granted)

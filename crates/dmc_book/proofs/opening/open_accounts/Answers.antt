@@ -1,4 +1,4 @@
-use Rattle.std.proofs.Common.{◌≡◌, ◌+◌, ◌*◌, List, length, map, drop, sym, subst, ap, ◌∙◌}
+use Rattle.std.proofs.Common.{◌≡◌, ◌+◌, ◌*◌, List, length, map, drop, refl, sym, subst, ap, ◌∙◌}
 use Rattle.std.specs.List.{AllByRecursion}
 use Rattle.dmc_ledger.specs.Bundles.{ClientSide, client_side}
 use Rattle.dmc_ledger.specs.declared.desk.ClientDesk.{ClientDesk}
@@ -31,4 +31,5 @@ invariant_of-accounts g c =
     rw (back, opened, seats, c.new.ensures, number, c.requires.no_room) (
       consistent_new c.args.server.0 c.args.parts.history.most c.args.mint.now.opened c.args.workers.now start c.requires.new c.requires.once c.requires.limit c.requires.few,
       c.requires.clients ∙ sym (names_stay n new items opened),
+      refl,
     )

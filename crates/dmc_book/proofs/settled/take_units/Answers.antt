@@ -6,7 +6,7 @@ use Rattle.dmc_ledger.specs.Bundles.{ClientSide, client_side, grant_holdings}
 use Rattle.dmc_shared.proofs.PlaceLemmas.{done_below, rest_below, left_by_pop, taken_by_pop}
 use Rattle.dmc_book.specs.BookState.{no_desk, no_unit}
 use Rattle.dmc_book.specs.Counts.{one_if}
-use Rattle.dmc_book.specs.Settling.{IsDeskTakenIn}
+use Rattle.dmc_book.specs.Settling.{IsDeskTakenIn, amounts_in}
 use Rattle.dmc_book.proofs.SettlingLemmas.{unit_past}
 use Rattle.dmc_book.proofs.settled.take_units.Goals as goal
 
@@ -49,7 +49,7 @@ loop-unit-preserved g c =
     let d : get_or start i no_desk ≡ client_side (get_or c.loop-unit.desks i c.index-desks-i.result) =
     sym (c.loop-unit.invariant.rest i (omega (arith, long))) ∙ get_or-map client_side c.loop-unit.desks i c.index-desks-i.result no_desk (omega (arith, long, c.loop-unit.invariant.fits, c.loop-unit.invariant.as_many)) in
     let one : one_if (nat_lt i (length all)) ≡ 1 = ap one_if (lt-ltb i (length all) (omega (arith, long, c.loop-unit.invariant.fewer, length-map c.args.units.items (grant_holdings {S = g.row.S.Denot})))) in
-    let here : IsDeskTakenIn (one_if (nat_lt i (length all))) (get_or all i no_unit).reservation.amount (get_or all i no_unit).priority.amount (get_or start i no_desk) (client_side c.take_unit.new.desk) = rw (one, t, d) c.take_unit.ensures in
+    let here : IsDeskTakenIn (one_if (nat_lt i (length all))) (amounts_in (get_or all i no_unit).reservation) (amounts_in (get_or all i no_unit).priority) (get_or start i no_desk) (client_side c.take_unit.new.desk) = rw (one, t, d) c.take_unit.ensures in
     record {
       fewer = omega (arith, at, long, c.loop-unit.invariant.fewer);
       fits = omega (arith, at, long, c.loop-unit.invariant.fits);
@@ -58,7 +58,7 @@ loop-unit-preserved g c =
       rest = λ k h. rest_below client_side no_desk start c.loop-unit.desks i c.take_unit.new.desk
           (λ j below. c.loop-unit.invariant.rest j (omega (arith, long))) k (omega (arith, at));
       done = λ k from inside. done_below client_side no_desk
-          (λ (j : ℕ) (x : ClientSide). IsDeskTakenIn (one_if (nat_lt j (length all))) (get_or all j no_unit).reservation.amount (get_or all j no_unit).priority.amount (get_or start j no_desk) x)
+          (λ (j : ℕ) (x : ClientSide). IsDeskTakenIn (one_if (nat_lt j (length all))) (amounts_in (get_or all j no_unit).reservation) (amounts_in (get_or all j no_unit).priority) (get_or start j no_desk) x)
           c.loop-unit.desks i (length c.args.desks.now) c.take_unit.new.desk (omega (arith, long, c.loop-unit.invariant.fits, c.loop-unit.invariant.as_many))
           (λ j above within. c.loop-unit.invariant.done j (omega (arith, long)) within) here k (omega (arith, at)) inside;
     }

@@ -3,7 +3,7 @@ use Rattle.std.specs.Prelude.{nat_lt}
 use Rattle.dmc_ledger.specs.Bundles.{grant_holdings, client_side}
 use Rattle.dmc_book.specs.Counts.{one_if}
 use Rattle.dmc_book.specs.BookState.{no_desk, no_unit}
-use Rattle.dmc_book.specs.Settling.{IsDeskTakenIn}
+use Rattle.dmc_book.specs.Settling.{IsDeskTakenIn, amounts_in}
 use Rattle.dmc_book.proofs.settled.take_units.Given as goal
 
 abbrev pub invariant-loop-unit : goal.invariant-loop-unit
@@ -14,7 +14,7 @@ invariant-loop-unit g l = record {
   same : (k : ℕ) → k < length l.units.items → get_or (map grant_holdings l.units.items) k no_unit ≡ get_or (map grant_holdings l.fn.units.items) k no_unit;
   rest : (k : ℕ) → k < length l.units.items → get_or (map client_side l.desks) k no_desk ≡ get_or (map client_side l.fn.desks) k no_desk;
   done : (k : ℕ) → length l.units.items ≤ k → k < length l.fn.desks
-      → IsDeskTakenIn (one_if (nat_lt k (length (map grant_holdings l.fn.units.items)))) (get_or (map grant_holdings l.fn.units.items) k no_unit).reservation.amount (get_or (map grant_holdings l.fn.units.items) k no_unit).priority.amount
+      → IsDeskTakenIn (one_if (nat_lt k (length (map grant_holdings l.fn.units.items)))) (amounts_in (get_or (map grant_holdings l.fn.units.items) k no_unit).reservation) (amounts_in (get_or (map grant_holdings l.fn.units.items) k no_unit).priority)
       (get_or (map client_side l.fn.desks) k no_desk) (get_or (map client_side l.desks) k no_desk);
 }
 

@@ -13,6 +13,7 @@ invariant_of-self g c =
       consistent_either here.server.0 here.history (map worker_side here.workers.items) here.desks.items c.add_desk.new.desks.items c.args.desk c.add_desk.result
           c.add_desk.ensures.added c.add_desk.ensures.kept may.0 may.1 c.self.invariant.0,
       c.add_desk.ensures.named,
+      c.self.invariant.2,
     )
 
 pub returns-clause-admitted : goal.returns-clause-admitted

@@ -63,7 +63,7 @@ invariant_of-self g c =
     let a : AccountsState g.row.T.Denot = accounts_of here.server.0 here.history (seats_of here.workers.items) (map client_side here.desks.items) in
     let may = may_leave g at in
     let taken = taken_in g at in
-    rw (seats_back g at, desks_back g at, closed_now g at) (consistent_left a c.self.invariant.0 p may (map client_side new) taken, c.self.invariant.1 ∙ sym (names_kept new here.desks.items (same_ids a c.self.invariant.0 p may (map client_side new) taken)))
+    rw (seats_back g at, desks_back g at, closed_now g at) (consistent_left a c.self.invariant.0 p may (map client_side new) taken, c.self.invariant.1 ∙ sym (names_kept new here.desks.items (same_ids a c.self.invariant.0 p may (map client_side new) taken)), c.self.invariant.2)
 
 pub returns-clause-gone : goal.returns-clause-gone
 returns-clause-gone g c =

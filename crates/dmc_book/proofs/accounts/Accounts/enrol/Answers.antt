@@ -10,8 +10,12 @@ use Rattle.dmc_book.specs.internal.Opening.{HaveRoom}
 use Rattle.dmc_book.specs.declared.fault.EnrolFault.TheVariants.{Memory}
 use Rattle.dmc_book.specs.declared.seat.Seat.{Seat}
 use Rattle.dmc_book.proofs.EnrollingLemmas.{consistent_enrolled, room_for_one_more}
+use Rattle.dmc_book.proofs.ExtendingLemmas.{apart_by_number}
 use Rattle.dmc_book.proofs.OpeningLemmas.{as_many_desks, names_by_sides, names_stay}
 use Rattle.dmc_book.proofs.accounts.Accounts.enrol.Goals as goal
+
+pub make_seat_room-requires : goal.make_seat_room-requires
+make_seat_room-requires g c = record { apart = rw (c.deref-2.ensures.value) (apart_by_number (map client_side c.self.inside.desks.items) c.self.invariant.0.clients_apart) }
 
 pub open_seat-requires-clause-some_left : goal.open_seat-requires-clause-some_left
 open_seat-requires-clause-some_left g c = λ k inside. (
@@ -39,7 +43,7 @@ invariant_of-self-2 g c =
     c.open_seat.ensures.workers ∙ ap (λ (ss : List (Seat g.row.S.Denot)). map worker_side ss ++ new_worker (length c.deref_mut.result.now) n c.args.worker ∷ []) c.in-Ok.ensures.kept
     ∙ ap (λ r. seats ++ new_worker r n c.args.worker ∷ []) (ap length same ∙ sym (length-map items f)) in
     let back = lent_back new (drop (length new) items) here.desks.len (as_many_desks 1 new items opened ∙ sym here.desks.ok.0) in
-    rw (back, opened, seated) (consistent_enrolled a c.self.invariant.0 may.1.few n c.args.worker may.0, c.self.invariant.1 ∙ sym (names_stay 1 new items opened))
+    rw (back, opened, seated) (consistent_enrolled a c.self.invariant.0 may.1.few n c.args.worker may.0, c.self.invariant.1 ∙ sym (names_stay 1 new items opened), c.self.invariant.2)
 
 pub returns-clause-pass : goal.returns-clause-pass
 returns-clause-pass g c =

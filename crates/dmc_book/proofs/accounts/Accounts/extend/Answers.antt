@@ -54,4 +54,4 @@ invariant_of-self g c =
     c.open_rest.ensures.workers ∙ ap (λ n. with_reach p.place n seats) (ap length same ∙ sym (length-map items f)) in
     let as_many : length new ≡ length items = sym (length-map new f) ∙ ap length opened ∙ as_many_from (reach_at p.place seats) (map f items) ∙ length-map items f in
     let back = lent_back new (drop (length new) items) here.desks.len (as_many ∙ sym here.desks.ok.0) in
-    rw (back, opened, reached) (consistent_extended a p.place its.0.within c.self.invariant.0 its.0.still, c.self.invariant.1 ∙ sym (names_from (reach_at p.place seats) new items opened))
+    rw (back, opened, reached) (consistent_extended a p.place its.0.within c.self.invariant.0 its.0.still, c.self.invariant.1 ∙ sym (names_from (reach_at p.place seats) new items opened), c.self.invariant.2)

@@ -1,4 +1,4 @@
-use Rattle.std.proofs.Common.{rules, ◌≡◌, ◌<◌, ◌∙◌, Some, length, map, ap, refl, subst, sym, slice_index_or, slice_set}
+use Rattle.std.proofs.Common.{rules, arith, ◌≡◌, ◌<◌, ◌∙◌, Some, length, map, ap, refl, subst, sym, slice_index_or, slice_set}
 use Rattle.std.specs.Prelude.{is_some, true}
 use Rattle.dmc_book.specs.Moves.{desk_after, desk_place}
 use Rattle.dmc_ledger.specs.Bundles.{client_side}
@@ -7,7 +7,8 @@ use Rattle.dmc_tag.specs.declared.reply.Reply.TheVariants.{Tagged}
 use Rattle.dmc_types.specs.declared.command.Command.TheVariants.{Add}
 use Rattle.dmc_book.specs.BookState.{AccountsState, accounts_of, pass_state, worker_side}
 use Rattle.dmc_book.specs.Calls.{event_of}
-use Rattle.dmc_book.proofs.Counting.{consistent_recorded, workers_fit}
+use Rattle.dmc_book.specs.Counts.{count, grant_cost}
+use Rattle.dmc_book.proofs.Counting.{consistent_recorded, cost_more, workers_fit}
 use Rattle.dmc_book.proofs.RunLemmas.{other_than_left, seated_pass}
 use Rattle.dmc_book.proofs.DeskLemmas.{desk_within, placed, names_stay, written, stamp_idle, stamp_taken}
 use Rattle.dmc_book.proofs.accounts.Accounts.record_add.Given.{Over}
@@ -55,6 +56,7 @@ invariant_of-self g c =
       consistent_recorded e a c.push_reserved.new.self (map worker_side c.count.new.workers.items) _
           c.push_reserved.ensures.events c.push_reserved.ensures.first c.push_reserved.ensures.most c.count.ensures.workers (desks_are g p) c.count.ensures.small tt queued seated others c.self.invariant.0,
       c.self.invariant.1 ∙ sym (names_are g p),
+      let more = ap (count grant_cost) c.push_reserved.ensures.events ∙ cost_more e a.history in omega (arith, c.self.invariant.2, more),
     )
 
 pub returns-clause-accounts : goal.returns-clause-accounts

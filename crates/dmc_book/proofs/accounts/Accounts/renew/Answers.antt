@@ -40,7 +40,7 @@ invariant_of-self g c =
     let p = (goal.at.invariant_of-self g c).After-renew_seat in
     let here = c.self.inside in
     let a : AccountsState g.row.T.Denot = accounts_of here.server.0 here.history (map worker_side here.workers.items) (map client_side here.desks.items) in
-    rw (now g p, c.len-events.ensures.value) (consistent_renewed a c.args.pass.now.place (enrolled g p) (rw (← c.self.view_is) at c.requires.enrolled.still) c.self.invariant.0, c.self.invariant.1)
+    rw (now g p, c.len-events.ensures.value) (consistent_renewed a c.args.pass.now.place (enrolled g p) (rw (← c.self.view_is) at c.requires.enrolled.still) c.self.invariant.0, c.self.invariant.1, c.self.invariant.2)
 
 pub returns-clause-accounts : goal.returns-clause-accounts
 returns-clause-accounts g c = rw (← c.self.view_is, now g (goal.at.returns-clause-accounts g c).After-renew_seat, c.len-events.ensures.value) refl

@@ -51,4 +51,4 @@ pub returns-clause-grants : goal.returns-clause-grants
 returns-clause-grants g c =
     let here = c.self.inside in
     let known = c.self.invariant.0 in
-    rw (← c.self.view_is) (λ phase. grants_of_desks phase (map client_side here.desks.items) known.clients_apart here.history.events known.granted)
+    rw (← c.self.view_is) (grants_of_desks (map client_side here.desks.items) known.clients_apart here.history.events known.granted)

@@ -41,6 +41,6 @@ invariant_of-book g c =
     let number : c.open_desks-number.result.0 ≡ list_number start =
     c.open_desks-number.ensures.is ∙ ap (λ (xs : List (ServerDesk g.row.S.Denot)). list_number (map f xs)) same in
     rw (back, opened, numbers, c.new.ensures, number, c.in-Ok.ensures.history.1, none) (
-      IsConsistent-new c.args.client.0 c.args.counting c.args.most c.args.max_events start c.requires represents c.in-Ok.ensures.limits.some_events c.in-Ok.ensures.limits.events_limit,
+      IsConsistent-new c.args.client.0 c.args.counting c.args.most c.args.max_events start c.requires represents c.in-Ok.ensures.limits.tracker.max_limit c.in-Ok.ensures.limits.some_events c.in-Ok.ensures.limits.events_limit,
       c.in-Ok.ensures.held ∙ servers ∙ length-map items f ∙ sym as_many,
     )

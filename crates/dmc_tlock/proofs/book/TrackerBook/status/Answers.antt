@@ -2,9 +2,9 @@ use Rattle.std.proofs.Common.{arith, ◌<◌, length, sym, subst, rules}
 use Rattle.std.proofs.lemmas.Grind.{common_steps}
 use Rattle.dmc_ledger.specs.Bundles.{ServerSide, stamp_holdings}
 use Rattle.dmc_ledger.specs.Moves.{AreWithin}
-use Rattle.dmc_tlock.specs.internal.Status.{IsReadOff}
+use Rattle.dmc_tlock.specs.internal.Status.{IsReadable, IsReadOff}
 use Rattle.dmc_tlock.proofs.DeskLemmas.{found}
-use Rattle.dmc_tlock.proofs.StatusLemmas.{IsReadable, readable, IsStatusOf-read, IsWithin-read, AreSums-status}
+use Rattle.dmc_tlock.proofs.StatusLemmas.{readable, IsStatusOf-read, IsWithin-read, AreSums-status}
 use Rattle.dmc_tlock.proofs.book.TrackerBook.status.Goals as goal
 
 pub read_status-requires : goal.read_status-requires
@@ -13,9 +13,8 @@ read_status-requires g c =
     let within : c.in_ok-index.index < length here.desks.items = search rules in
     let at = found here.desks.items c.args.server c.in_ok-index.index c.index-desk.result.now
     c.in_ok-index.ensures.place within c.index-desk.ensures in
-    let can = subst (λ (d : ServerSide). IsReadable here.tracker d c.args.server) at.seen
-    (readable _ c.args.server at.within c.self.invariant.0) in
-    record { within = can.within; all = can.all; constraint = can.constraint }
+    subst (λ (d : ServerSide). IsReadable here.tracker d c.args.server) at.seen
+    (readable _ c.args.server at.within c.self.invariant.0)
 
 pub returns-clause-status : goal.returns-clause-status
 returns-clause-status g c =

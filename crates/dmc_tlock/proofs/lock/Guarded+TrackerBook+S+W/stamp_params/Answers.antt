@@ -11,7 +11,7 @@ stays : (g : Over) (c : After-stamp g) → g.W.Witness.holds c.self.inside.witne
 stays g c =
     let book = c.self.inside.book in
     g.met.W.Witness.stays c.self.inside.witness book c.stamp.new.self
-    (later_by IsLater later_same book c.stamp.new.self (book_after_stamp c.args.server book) c.stamp.result (later_stamp c.args.server book) c.stamp.ensures.book c.stamp.ensures.kept)
+    (later_by IsLater later_same book c.stamp.new.self (book_after_stamp c.args.server c.args.cost book) c.stamp.result (later_stamp c.args.server c.args.cost book) c.stamp.ensures.book c.stamp.ensures.kept)
     c.self.invariant
 
 pub invariant_of-self : goal.invariant_of-self

@@ -2,5 +2,5 @@
 use Rattle.std.proofs.Common.{rules}
 use Rattle.dmc_tlock.proofs.lock.LockedTracker+TrackerBook+S+W.respond.Goals as goal
 
-pub returns-clause-till : goal.returns-clause-till
-returns-clause-till g c = search rules
+pub returns-in-Ok-clause-tills : goal.returns-in-Ok-clause-tills
+returns-in-Ok-clause-tills g c = search rules

@@ -1,4 +1,4 @@
--- How many counts of a server can't grow.
+-- How many lists of grants of a server can't grow.
 use Rattle.std.proofs.Common.{◌≡◌, ℕ, ◌+◌, ◌<◌, ◌≤◌, Bool, true, false, cond, List, [], ◌∷◌, length, set, slice_get, Some, nat_lt, ◌==◌, refl, sym, ap, ◌∙◌, arith}
 use Rattle.std.specs.Prelude.{◌||◌}
 use Rattle.std.specs.List.{AllZip}
@@ -10,11 +10,12 @@ use Rattle.dmc_types.specs.declared.ids.ServerId.{ServerId}
 use Rattle.dmc_types.specs.declared.config.Counting.{Counting}
 use Rattle.dmc_types.specs.declared.config.PhaseType.{PhaseType}
 use Rattle.dmc_types.specs.declared.config.PhaseType.TheVariants.{Reservation, Priority}
-use Rattle.dmc_core.specs.Run.{Pair, Client, no_pair, pair_at, with_pair, grants, with_grants, max_grants, has_full_count, are_grants_full}
+use Rattle.dmc_core.specs.Run.{Pair, Client, no_pair, pair_at, with_pair, grants, with_grants, max_grants, are_grants_full}
+use Rattle.dmc_core.specs.Run as runs
 use Rattle.dmc_core.specs.Core.{Held, Matches}
 use Rattle.dmc_core.specs.internal.Parts.{KeepsGrants, one_if_full, full_counts_of, full_counts}
 
--- a pair has a full count, or it has none
+-- a pair has a full list, or it has none
 by_pair : (r p : Bool) (a : Bool) (n : ℕ) → a ≡ nat_lt 0 n → ((r || p) || a) ≡ nat_lt 0 (cond r 1 0 + cond p 1 0 + n)
 by_pair true p a n e = sym (lt-ltb _ _ (omega arith))
 by_pair false true a n e = sym (lt-ltb _ _ (omega arith))
@@ -26,8 +27,8 @@ are_full s counting [] (c ∷ cs) z = absurd z
 are_full s counting (h ∷ hs) [] z = absurd z
 are_full s counting (h ∷ hs) (c ∷ cs) z =
     let p = pair_at s h.pairs in
-    ap (λ (ps : List Pair). has_full_count (pair_at s ps) || are_grants_full s cs) (sym z.0.pairs)
-    ∙ by_pair (p.reservation == max_grants) (p.priority == max_grants) (are_grants_full s cs) (full_counts s hs) (are_full s counting hs cs z.1)
+    ap (λ (ps : List Pair). runs.are_full (pair_at s ps) || are_grants_full s cs) (sym z.0.pairs)
+    ∙ by_pair (length p.reservation == max_grants) (length p.priority == max_grants) (are_grants_full s cs) (full_counts s hs) (are_full s counting hs cs z.1)
     ∙ ap (nat_lt 0) (sym (sum_by-cons (λ h. full_counts_of (pair_at s h.pairs)) h hs))
 
 -- another client at a place
@@ -44,25 +45,25 @@ full_counts-part s hs i h at =
     let e = full_counts-set s hs i h none at in
     omega arith
 
--- one count of a pair is another
-pub full_counts_of-with_grants : (phase : PhaseType) (n : ℕ) (p : Pair) → full_counts_of (with_grants phase n p) + one_if_full (grants phase p) ≡ full_counts_of p + one_if_full n
+-- one list of a pair is another
+pub full_counts_of-with_grants : (phase : PhaseType) (n : List ℕ) (p : Pair) → full_counts_of (with_grants phase n p) + one_if_full (length (grants phase p)) ≡ full_counts_of p + one_if_full (length n)
 full_counts_of-with_grants Reservation n p = omega arith
 full_counts_of-with_grants Priority n p = omega arith
 
-pub one_if_full-part : (phase : PhaseType) (p : Pair) → one_if_full (grants phase p) ≤ full_counts_of p
+pub one_if_full-part : (phase : PhaseType) (p : Pair) → one_if_full (length (grants phase p)) ≤ full_counts_of p
 one_if_full-part Reservation p = omega arith
 one_if_full-part Priority p = omega arith
 
 -- the same grants, the same counts
 pub same_counts : (old new : List Pair) (s : ServerId) → KeepsGrants old new → full_counts_of (pair_at s new) ≡ full_counts_of (pair_at s old)
 same_counts old new s k =
-    ap (λ n. one_if_full n + one_if_full (pair_at s new).priority) (k.grants s Reservation)
-    ∙ ap (λ n. one_if_full (pair_at s old).reservation + one_if_full n) (k.grants s Priority)
+    ap (λ (n : List ℕ). one_if_full (length n) + one_if_full (length (pair_at s new).priority)) (k.grants s Reservation)
+    ∙ ap (λ (n : List ℕ). one_if_full (length (pair_at s old).reservation) + one_if_full (length n)) (k.grants s Priority)
 
--- one count of a client at a server is another
-module _ (hs : List Held) (i : ℕ) (h h' : Held) (at : slice_get hs i ≡ Some h) (s : ServerId) (within : s.0 < length h.pairs) (phase : PhaseType) (n : ℕ)
+-- one list of a client at a server is another
+module _ (hs : List Held) (i : ℕ) (h h' : Held) (at : slice_get hs i ≡ Some h) (s : ServerId) (within : s.0 < length h.pairs) (phase : PhaseType) (n : List ℕ)
     (pairs_is : h'.pairs ≡ with_pair s (with_grants phase n (pair_at s h.pairs)) h.pairs) where
-  pub full_counts-there : full_counts s (set hs i h') + one_if_full (grants phase (pair_at s h.pairs)) ≡ full_counts s hs + one_if_full n
+  pub full_counts-there : full_counts s (set hs i h') + one_if_full (length (grants phase (pair_at s h.pairs))) ≡ full_counts s hs + one_if_full (length n)
   full_counts-there =
       let here : pair_at s h'.pairs ≡ with_grants phase n (pair_at s h.pairs) = ap (pair_at s) pairs_is ∙ get_or-set_same h.pairs s.0 _ no_pair within in
       let e = full_counts-set s hs i h h' at in

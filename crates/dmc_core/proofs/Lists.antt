@@ -1,10 +1,11 @@
 -- Lists that match place by place, and what is found and changed in them.
-use Rattle.std.proofs.Common.{◌≡◌, ℕ, zero, suc, ◌<◌, ◌≤◌, Bool, true, false, List, [], ◌∷◌, length, map, set, get_or, slice_get, nat_lt, Option, Some, None, refl, sym, ap, ◌∙◌, arith}
-use Rattle.std.specs.List.{AllZip, AllByRecursion, find, position, position_or_len}
+use Rattle.std.proofs.Common.{◌≡◌, ℕ, zero, suc, ◌<◌, ◌≤◌, Bool, true, false, List, [], ◌∷◌, length, map, set, get_or, slice_get, nat_lt, ◌==◌, ◌+◌, Option, Some, None, refl, sym, ap, ◌∙◌, inl, inr, ◌⊎◌, cond, arith}
+use Rattle.std.specs.List.{AllZip, AllByRecursion, find, list_any, position, position_or_len, remove}
 use Rattle.std.proofs.lemmas.Bool.{ltb-false}
+use Rattle.std.proofs.lemmas.List.Folds.{find_at}
 use Rattle.std.proofs.lemmas.List.Quantifiers.{position-Some}
-use Rattle.dmc_core.specs.Run.{change_first}
-use Rattle.std.proofs.lemmas.Option.{same_Some}
+use Rattle.dmc_core.specs.Run.{change_first, without_first}
+use Rattle.std.proofs.lemmas.Option.{same_Some, slice_get_past}
 
 -- ---- what is at a place of a list and of its image
 
@@ -30,6 +31,38 @@ pub all_set : {A : Type 0} (P : A → Type 0) (xs : List A) (i : ℕ) (x : A) �
 all_set P [] i x h p = h
 all_set P (y ∷ ys) zero x h p = (p, h.1)
 all_set P (y ∷ ys) (suc i) x h p = (h.0, all_set P ys i x h.1 p)
+
+-- what holds of each element follows by its place
+all_places : {A : Type 0} (P P' : A → Type 0) (xs : List A) → AllByRecursion P xs → ((j : ℕ) (y : A) → slice_get xs j ≡ Some y → P y → P' y) → AllByRecursion P' xs
+all_places P P' [] h each = tt
+all_places P P' (x ∷ xs) h each = (each 0 x refl h.0, all_places P P' xs h.1 (λ j y at. each (suc j) y at))
+
+-- it holds of one that is put at a place, and it follows for each other
+pub all_set_apart : {A : Type 0} (P P' : A → Type 0) (xs : List A) (i : ℕ) (x : A) → AllByRecursion P xs → ((j : ℕ) (y : A) → slice_get xs j ≡ Some y → (j ≡ i → ⊥) → P y → P' y) → P' x
+    → AllByRecursion P' (set xs i x)
+all_set_apart P P' [] i x h each p = tt
+all_set_apart P P' (y ∷ ys) zero x h each p = (p, all_places P P' ys h.1 (λ j z at. each (suc j) z at (λ e. absurd (omega (arith, e)))))
+all_set_apart P P' (y ∷ ys) (suc i) x h each p = (each 0 y refl (λ e. absurd (omega (arith, e))) h.0, all_set_apart P P' ys i x h.1 (λ j z at other. each (suc j) z at (λ e. other (omega (arith, e)))) p)
+
+-- what is at a place after one is put there
+pub set_seen : {A : Type 0} (xs : List A) (i j : ℕ) (x y : A) → slice_get (set xs i y) j ≡ Some x → ((j ≡ i) × (x ≡ y)) ⊎ (slice_get xs j ≡ Some x)
+set_seen [] i j x y e = inr e
+set_seen (z ∷ zs) zero zero x y e = inl (refl, sym (same_Some y x e))
+set_seen (z ∷ zs) zero (suc j) x y e = inr e
+set_seen (z ∷ zs) (suc i) zero x y e = inr e
+set_seen (z ∷ zs) (suc i) (suc j) x y e = by (set_seen zs i j x y e)
+  where
+    by : ((j ≡ i) × (x ≡ y)) ⊎ (slice_get zs j ≡ Some x) → ((suc j ≡ suc i) × (x ≡ y)) ⊎ (slice_get zs j ≡ Some x)
+    by (inl (a, b)) = inl (ap suc a, b)
+    by (inr f) = inr f
+
+pub not_changed : {X : Type 0} (q : X → Bool) (xs : List X) → change_first q (λ x. x) xs ≡ xs
+not_changed q [] = refl
+not_changed q (x ∷ xs) = by (not_changed q xs) (q x) refl
+  where
+    by : change_first q (λ x. x) xs ≡ xs → (b : Bool) → q x ≡ b → change_first q (λ x. x) (x ∷ xs) ≡ x ∷ xs
+    by rest true e = rw e refl
+    by rest false e = rw e (ap (λ zs. x ∷ zs) rest)
 
 -- ---- the first that passes a test, in two lists
 
@@ -81,3 +114,60 @@ module _ {A B : Type 0} (R : A → B → Type 0) (p : A → Bool) (q : B → Boo
       by : (b : Bool) → nat_lt (position_or_len p xs) (length xs) ≡ b → length xs ≤ position_or_len p xs
       by true t = absurd (none_some (position_or_len p xs) (position p xs) e (rw t refl))
       by false t = ltb-false _ _ t
+
+-- ---- the first of these costs that is this one
+
+remove_from : (cost d : ℕ) (xs : List ℕ) (i : ℕ) → i < length xs → (get_or xs i d == cost) ≡ true → ((k : ℕ) → k < i → (get_or xs k d == cost) ≡ false)
+    → (remove xs i ≡ without_first cost xs) × (list_any (λ c. c == cost) xs ≡ true) × (length (without_first cost xs) + 1 ≡ length xs)
+remove_from cost d [] i w t f = absurd (omega (arith, w))
+remove_from cost d (x ∷ xs) zero w t f = (rw t refl, rw t refl, rw t (omega arith))
+remove_from cost d (x ∷ xs) (suc i) w t f =
+    let rest = remove_from cost d xs i (omega (arith, w)) t (λ k l. f (suc k) (omega (arith, l))) in
+    let here : (x == cost) ≡ false = f zero (omega arith) in
+    (rw here (ap (λ zs. x ∷ zs) rest.0), rw here rest.1, rw here (omega (arith, rest.2)))
+
+-- it is found, and taken out by its place
+pub removed : (cost : ℕ) (xs : List ℕ) (i : ℕ) → position (λ c. c == cost) xs ≡ Some i
+    → (remove xs i ≡ without_first cost xs) × (list_any (λ c. c == cost) xs ≡ true) × (length (without_first cost xs) + 1 ≡ length xs)
+removed cost xs i e = let f = position-Some (λ c. c == cost) xs i 0 e in remove_from cost 0 xs i f.0 f.1 f.2
+
+none_any_from : (cost : ℕ) (xs : List ℕ) → length xs ≤ position_or_len (λ c. c == cost) xs → list_any (λ c. c == cost) xs ≡ false
+none_any_from cost [] l = refl
+none_any_from cost (x ∷ xs) l = by (none_any_from cost xs) (x == cost) refl
+  where
+    by : (length xs ≤ position_or_len (λ c. c == cost) xs → list_any (λ c. c == cost) xs ≡ false) → (b : Bool) → (x == cost) ≡ b → list_any (λ c. c == cost) (x ∷ xs) ≡ false
+    by rest true e = absurd (omega (arith, rw e at l))
+    by rest false e = rw e (rest (omega (arith, rw e at l)))
+
+-- it is not there
+pub none_any : (cost : ℕ) (xs : List ℕ) → position (λ c. c == cost) xs ≡ None → list_any (λ c. c == cost) xs ≡ false
+none_any cost xs e = none_any_from cost xs (by (nat_lt (position_or_len (λ c. c == cost) xs) (length xs)) refl)
+  where
+    by : (b : Bool) → nat_lt (position_or_len (λ c. c == cost) xs) (length xs) ≡ b → length xs ≤ position_or_len (λ c. c == cost) xs
+    by true t = absurd (none_some (position_or_len (λ c. c == cost) xs) (position (λ c. c == cost) xs) e (rw t refl))
+    by false t = ltb-false _ _ t
+
+-- one that is there is taken out
+pub removed_any : (cost : ℕ) (xs : List ℕ) → list_any (λ c. c == cost) xs ≡ true → length (without_first cost xs) + 1 ≡ length xs
+removed_any cost [] e = cc
+removed_any cost (x ∷ xs) e = by (removed_any cost xs) (x == cost) refl
+  where
+    by : (list_any (λ c. c == cost) xs ≡ true → length (without_first cost xs) + 1 ≡ length xs) → (b : Bool) → (x == cost) ≡ b → length (without_first cost (x ∷ xs)) + 1 ≡ length (x ∷ xs)
+    by rest true f = rw f (omega arith)
+    by rest false f = let l = rest (rw f at e) in rw f (omega arith)
+
+-- ---- what is found, by its place
+
+pub found_at : {X : Type 0} (p : X → Bool) (xs : List X) (i : ℕ) → position p xs ≡ Some i → find p xs ≡ slice_get xs i
+found_at p xs i e = find_at p xs ∙ ap (slice_get xs) (by (nat_lt (position_or_len p xs) (length xs)) e)
+  where
+    by : (b : Bool) → cond b (Some (position_or_len p xs)) None ≡ Some i → position_or_len p xs ≡ i
+    by true f = same_Some _ _ f
+    by false f = cc
+
+pub found_none : {X : Type 0} (p : X → Bool) (xs : List X) → position p xs ≡ None → find p xs ≡ None
+found_none p xs e = find_at p xs ∙ slice_get_past xs (position_or_len p xs) (by (nat_lt (position_or_len p xs) (length xs)) refl)
+  where
+    by : (b : Bool) → nat_lt (position_or_len p xs) (length xs) ≡ b → length xs ≤ position_or_len p xs
+    by true t = absurd (none_some (position_or_len p xs) (position p xs) e (rw t refl))
+    by false t = ltb-false _ _ t

@@ -1,16 +1,18 @@
 -- What a cluster opens with.
 use Rattle.std.proofs.Common.{◌≡◌, ◌≢◌, ℕ, zero, suc, ◌+◌, ◌<◌, ◌≤◌, eqb, false, true≢false, nat_le, List, [], ◌∷◌, ◌++◌, length, map, take, replicate, get_or, Some, None, refl, sym, ap, ◌∙◌, subst, arith, Ok, Err}
-use Rattle.std.specs.Prelude.{AllPairs, IsOk, Result}
+use Rattle.std.specs.Prelude.{AllPairs, IsOk, Result, ⊤}
 use Rattle.std.specs.List.{AllByRecursion, AllZip, list_any}
 use Rattle.std.proofs.lemmas.Bool.{eqb-true, leb-true, false_from_ne_true}
 use Rattle.std.proofs.lemmas.List.Sums.{sum_by-cons}
-use Rattle.std.proofs.lemmas.List.{length-map, length-replicate, length-take, map-append, take_more}
+use Rattle.std.proofs.lemmas.List.{length-map, length-replicate, length-take, map-append, take_more, get_or-map}
 use Rattle.indexmap.specs.IndexSet.{insert_key}
 use Rattle.dmc_types.specs.Limits.{max_scene_clients}
 use Rattle.dmc_types.specs.Values.{Rates, Setting}
 use Rattle.dmc_types.specs.declared.ids.ClientId.{ClientId}
 use Rattle.dmc_types.specs.declared.ids.ServerId.{ServerId}
 use Rattle.dmc_types.specs.declared.config.Counting.{Counting}
+use Rattle.dmc_types.specs.declared.config.PhaseType.{PhaseType}
+use Rattle.dmc_types.specs.declared.config.PhaseType.TheVariants.{Reservation, Priority}
 use Rattle.dmc_types.specs.declared.command.Command.TheVariants.{Register}
 use Rattle.dmc_types.specs.declared.refusal.Refusal.{Refusal}
 use Rattle.dmc_tag.specs.Tag.{Tagging}
@@ -19,20 +21,23 @@ use Rattle.dmc_tag.specs.Spacing.{spacings_of}
 use Rattle.dmc_tag.specs.Step.{step}
 use Rattle.dmc_tag.specs.Steps.{Steps}
 use Rattle.dmc_tag.specs.Replay.{state_after}
-use Rattle.dmc_tag.specs.Rules.{newcomer}
+use Rattle.dmc_tag.specs.Rules.{newcomer, can_register}
 use Rattle.dmc_tag.specs.declared.reply.Reply.{Reply}
 use Rattle.dmc_tag.specs.declared.reply.Reply.TheVariants.{Registered, Refused}
 use Rattle.dmc_tag.proofs.ForCallers.{state_after-more}
+use Rattle.dmc_tag.proofs.Ids.{all_there}
+use Rattle.dmc_lemmas.proofs.Lists.{all_next, all_mapped}
 use Rattle.dmc_tracker.specs.Numbers.{no_numbers}
 use Rattle.dmc_tracker.proofs.ForCallers.{RepresentsEvents-new}
 use Rattle.dmc_scene.specs.SceneValue.{SceneValue, ClientValue, AreApart}
 use Rattle.dmc_core.specs.declared.server.CoreServer.{CoreServer}
-use Rattle.dmc_core.specs.Run.{no_pair, pair_at, max_completions}
+use Rattle.dmc_core.specs.Run.{Pair, no_pair, pair_at, grants, max_completions}
 use Rattle.dmc_core.specs.Events.{registration}
-use Rattle.dmc_core.specs.Core.{Held, Matches}
-use Rattle.dmc_core.specs.internal.Parts.{IsKept, full_counts, full_counts_of}
+use Rattle.dmc_core.specs.Core.{Held, Matches, HasRoom, AreWaiting, no_room, room_at, room_for}
+use Rattle.dmc_core.specs.internal.Parts.{IsKept, HasFewGrants, full_counts, full_counts_of}
 use Rattle.dmc_core.specs.Opening.{HaveSpacings, named_rates}
 use Rattle.dmc_core.specs.internal.Opening.{opening_client}
+use Rattle.dmc_core.proofs.Rooms.{HaveRoom}
 
 -- ---- ids that are apart
 
@@ -143,10 +148,66 @@ module _ {T : Type 0} (ops : Tagging T) (scene : SceneValue) (cs : List ClientVa
 
 -- ---- the run
 
-none_at : (n i : ℕ) → get_or (replicate n no_pair) i no_pair ≡ no_pair
-none_at zero i = refl
-none_at (suc n) zero = refl
-none_at (suc n) (suc i) = none_at n i
+none_at : {X : Type 0} (x : X) (n i : ℕ) → get_or (replicate n x) i x ≡ x
+none_at x zero i = refl
+none_at x (suc n) zero = refl
+none_at x (suc n) (suc i) = none_at x n i
+
+no_grants : (phase : PhaseType) → length (grants phase no_pair) ≡ 0
+no_grants Reservation = refl
+no_grants Priority = refl
+
+no_room_for : (phase : PhaseType) → room_for phase no_room ≡ 0
+no_room_for Reservation = refl
+no_room_for Priority = refl
+
+-- the ids of clients that are apart are
+apart_ids : (cs : List ClientValue) → AllPairs AreApart cs → AllPairs (λ a b. a ≢ b) (map (λ c. c.id) cs)
+apart_ids [] apart = λ i j d before within same. absurd (omega (arith, within))
+apart_ids (c ∷ cs) apart = λ i j d before within same.
+    let there : j < length (c ∷ cs) = rw (length-map (c ∷ cs) (λ (k : ClientValue). k.id)) at within in
+    apart i j c before there (sym (get_or-map (λ (k : ClientValue). k.id) (c ∷ cs) i c d (omega (arith, before, there))) ∙ same ∙ get_or-map (λ (k : ClientValue). k.id) (c ∷ cs) j c d there)
+
+-- ---- no client has a request
+
+module _ {T : Type 0} (ops : Tagging T) where
+  register_queues_none : (u : State T) (c : ClientId × Rates) → AllByRecursion (λ c. c.requests ≡ []) u.clients → AllByRecursion (λ c. c.requests ≡ []) ((step ops u (registration c)).0).clients
+  register_queues_none u c z = by (can_register ops u c.0 c.1) refl
+    where
+      by : (r : Result ⊤ Refusal) → can_register ops u c.0 c.1 ≡ r → AllByRecursion (λ c. c.requests ≡ []) ((step ops u (registration c)).0).clients
+      by (Err refusal) e = rw e z
+      by (Ok tested) e = rw e (all_next (λ (p : PlainClient T). p.requests ≡ []) u.clients _ z refl)
+
+  -- after registrations
+  pub registrations_queue_none : (u : State T) (cs : List (ClientId × Rates)) → AllByRecursion (λ c. c.requests ≡ []) u.clients → AllByRecursion (λ c. c.requests ≡ []) (state_after ops u (map registration cs)).clients
+  registrations_queue_none u [] z = z
+  registrations_queue_none u (c ∷ cs) z = registrations_queue_none ((step ops u (registration c)).0) cs (register_queues_none u c z)
+
+nothing_waits : {T : Type 0} (id : ClientId) (cs : List (PlainClient T)) → AllByRecursion (λ c. c.requests ≡ []) cs → AllByRecursion (AreWaiting id 0 0) cs
+nothing_waits id [] z = tt
+nothing_waits id (c ∷ cs) z = (λ e. let l = ap length z.0 in omega (arith, l), nothing_waits id cs z.1)
+
+module _ {T : Type 0} (u : State T) (none : AllByRecursion (λ c. c.requests ≡ []) u.clients) (counting : Counting) (n : ℕ) (s : ServerId) where
+  opened_room : (c : ClientValue) → HasRoom s (opening_client counting n c) u
+  opened_room c =
+      let p : pair_at s (replicate n no_pair) ≡ no_pair = none_at no_pair n s.0 in
+      let r : room_at s (replicate n no_room) ≡ no_room = none_at no_room n s.0 in
+      record {
+        flight = rw (p, r) (omega arith);
+        queued = rw (p, r) (nothing_waits c.id u.clients none);
+        room = λ phase. rw (p, r, no_grants phase, no_room_for phase) (omega arith);
+      }
+
+  opened_all : (cs : List ClientValue) → AllByRecursion (λ h. HasRoom s h u) (map (opening_client counting n) cs)
+  opened_all [] = tt
+  opened_all (c ∷ cs) = (opened_room c, opened_all cs)
+
+pub opened_rooms : {T Q : Type 0} (state : Q → State T) (u : State T) (servers : List (CoreServer Q)) → AllByRecursion (λ x. (state x.queue ≡ u) × (x.full ≡ 0)) servers → AllByRecursion (λ c. c.requests ≡ []) u.clients
+    → (counting : Counting) (n : ℕ) (cs : List ClientValue) → HaveRoom state (map (λ x. x.queue) servers) (map (opening_client counting n) cs)
+opened_rooms {T} {Q} state u servers each none counting n cs = λ s q at.
+    let queues = all_mapped (λ (x : CoreServer Q). (state x.queue ≡ u) × (x.full ≡ 0)) (λ (q : Q). state q ≡ u) (λ (x : CoreServer Q). x.queue) (λ x h. h.0) servers each in
+    let is : state q ≡ u = all_there (λ (q : Q). state q ≡ u) (map (λ (x : CoreServer Q). x.queue) servers) s.0 q queues at in
+    rw is (opened_all u none counting n s cs)
 
 module _ {T Q : Type 0} (state : Q → State T) (u : State T) (servers : List (CoreServer Q)) where
   pub opened_servers : (n : ℕ) → length servers ≡ n → AllByRecursion (λ x. (state x.queue ≡ u) × (x.full ≡ 0)) servers → replicate n u ≡ map state (map (λ x. x.queue) servers)
@@ -179,10 +240,14 @@ module _ (counting : Counting) (n : ℕ) where
   opened_pairs m e [] = tt
   opened_pairs m e (c ∷ cs) = (length-replicate n no_pair ∙ sym e, opened_pairs m e cs)
 
+  opened_few : (cs : List ClientValue) → AllByRecursion HasFewGrants (map (opening_client counting n) cs)
+  opened_few [] = tt
+  opened_few (c ∷ cs) = (λ s phase. let l : length (grants phase (pair_at s (replicate n no_pair))) ≡ 0 = ap (λ (p : Pair). length (grants phase p)) (none_at no_pair n s.0) ∙ no_grants phase in omega (arith, l), opened_few cs)
+
   opened_counts : (s : ServerId) (cs : List ClientValue) → full_counts s (map (opening_client counting n) cs) ≡ 0
   opened_counts s [] = refl
   opened_counts s (c ∷ cs) =
-      let here : full_counts_of (pair_at s (replicate n no_pair)) ≡ 0 = ap full_counts_of (none_at n s.0) in
+      let here : full_counts_of (pair_at s (replicate n no_pair)) ≡ 0 = ap full_counts_of (none_at no_pair n s.0) in
       let rest = opened_counts s cs in
       let whole = sum_by-cons (λ (h : Held). full_counts_of (pair_at s h.pairs)) (opening_client counting n c) (map (opening_client counting n) cs) in
       omega arith
@@ -193,10 +258,12 @@ module _ {Q : Type 0} (P : CoreServer Q → Type 0) where
   none_full (x ∷ xs) zero h = h.0.1
   none_full (x ∷ xs) (suc i) h = none_full xs i h.1
 
-  pub opened_kept : (counting : Counting) (n : ℕ) (cs : List ClientValue) (ids : List ClientId) (servers : List (CoreServer Q)) → ids ≡ map (λ c. c.id) cs → length servers ≡ n
+  pub opened_kept : (counting : Counting) (n : ℕ) (cs : List ClientValue) (ids : List ClientId) (servers : List (CoreServer Q)) → ids ≡ map (λ c. c.id) cs → AllPairs AreApart cs → length servers ≡ n
       → AllByRecursion (λ x. P x × (x.full ≡ 0)) servers → IsKept ids (map (opening_client counting n) cs) servers
-  opened_kept counting n cs ids servers ids_are as_many h = record {
+  opened_kept counting n cs ids servers ids_are apart as_many h = record {
     named = ids_are ∙ opened_ids counting n cs;
+    apart = rw ids_are (apart_ids cs apart);
     paired = opened_pairs counting n (length servers) as_many cs;
     full = λ s within. none_full servers s.0 h ∙ sym (opened_counts counting n s cs);
+    few = opened_few counting n cs;
   }

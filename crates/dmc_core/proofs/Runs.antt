@@ -1,7 +1,7 @@
 -- What the rules make of a run that the core represents.
-use Rattle.std.proofs.Common.{◌≡◌, ℕ, ◌<◌, ◌≤◌, Bool, true, false, List, length, set, slice_get, nat_le, Option, Some, None, inl, inr, refl, sym, ap, ◌∙◌, arith, Ok, Err}
+use Rattle.std.proofs.Common.{◌≡◌, ℕ, ◌<◌, ◌≤◌, Bool, true, false, List, length, set, slice_get, nat_le, Option, Some, None, inl, inr, refl, sym, ap, subst, ◌∙◌, Ok, Err}
 use Rattle.std.specs.Prelude.{Result, IsTrue, ◌⊎◌, position}
-use Rattle.std.specs.List.{AllZip}
+use Rattle.std.specs.List.{AllByRecursion, AllZip}
 use Rattle.std.specs.Option.{ok_or}
 use Rattle.std.proofs.lemmas.Bool.{leb-true}
 use Rattle.std.proofs.lemmas.List.{length-map}
@@ -25,10 +25,12 @@ use Rattle.dmc_core.specs.declared.event.CoreFault.{CoreFault}
 use Rattle.dmc_core.specs.declared.event.CoreFault.TheVariants as faults
 use Rattle.dmc_core.specs.Run.{Client, Run, change_first, with_client, with_server, client_of, server_of}
 use Rattle.dmc_core.specs.Events.{Outcome, client_event, server_event, outcome}
-use Rattle.dmc_core.specs.Core.{Held, CoreValue, Matches, RepresentsRun, Follows, ClientFollows, IsRefusal, may_grow, is_accepted}
-use Rattle.dmc_core.specs.internal.Parts.{place_of}
+use Rattle.dmc_core.specs.Core.{Held, CoreValue, Matches, HasRoom, RepresentsRun, Follows, ClientFollows, IsRefusal, may_grow, is_accepted}
+use Rattle.dmc_core.specs.internal.Parts.{place_of, KeepsRooms}
 use Rattle.dmc_core.specs.internal.Serving.{IsServed}
-use Rattle.dmc_core.proofs.Lists.{At, at_place, First, first_of_both, none_of_both, set_same}
+use Rattle.dmc_core.proofs.DistinctIds.{distinct_after}
+use Rattle.dmc_core.proofs.Lists.{At, at_place, First, first_of_both, none_of_both, not_changed}
+use Rattle.dmc_core.proofs.Rooms.{rooms_after_client, rooms_after_server}
 
 -- ---- the client and the server that an event names
 
@@ -102,28 +104,17 @@ module _ {T Q : Type 0} (state : Q → State T) (core : CoreValue Q) (id : Clien
 pub found_place : {Q : Type 0} (id : ClientId) (s : ServerId) (core : CoreValue Q) (i : ℕ) → place_of id s core ≡ Ok i → position (λ h. is_client id h.id) core.clients ≡ Some i
 found_place id s core i e = (a_place (position (λ h. is_client id h.id) core.clients) (nat_le (length core.servers) s.0) i e).0
 
--- at a server that there is, only a client that there is not has no place
-pub no_client_placed : {Q : Type 0} (id : ClientId) (s : ServerId) (core : CoreValue Q) (fault : CoreFault) → place_of id s core ≡ Err fault → s.0 < length core.servers → position (λ h. is_client id h.id) core.clients ≡ None
-no_client_placed id s core fault e within = by (no_place (position (λ h. is_client id h.id) core.clients) (nat_le (length core.servers) s.0) fault e)
-  where
-    by : ((position (λ h. is_client id h.id) core.clients ≡ None) × (fault ≡ faults.NoClient)) ⊎ ((i : ℕ) × (position (λ h. is_client id h.id) core.clients ≡ Some i) × (nat_le (length core.servers) s.0 ≡ true) × (fault ≡ faults.NoServer))
-        → position (λ h. is_client id h.id) core.clients ≡ None
-    by (inl (none, fault_is)) = none
-    by (inr (i, place, past, fault_is)) = absurd (omega (arith, leb-true _ _ past))
-
 module _ (counting : Counting) (hs : List Held) (cs : List Client) (z : AllZip (Matches counting) hs cs) (id : ClientId) where
   -- a change of a client that there is not changes none
   pub no_one_changed : position (λ h. is_client id h.id) hs ≡ None → (f : Client → Client) → change_first (λ c. is_client id c.id) f cs ≡ cs
   no_one_changed none = (none_of_both (Matches counting) (λ h. is_client id h.id) (λ c. is_client id c.id) (same_id id counting) hs cs z none).1
 
-  -- the one that there is is changed as what is held
-  pub one_changed : (i : ℕ) → position (λ h. is_client id h.id) hs ≡ Some i → (h' : Held) (f : Client → Client)
-      → ((h : Held) (c : Client) → slice_get hs i ≡ Some h → Matches counting h c → Matches counting h' (f c)) → AllZip (Matches counting) (set hs i h') (change_first (λ c. is_client id c.id) f cs)
-  one_changed i place h' f changed =
-      let both = first_of_both (Matches counting) (λ h. is_client id h.id) (λ c. is_client id c.id) (same_id id counting) hs cs i z place in
-      both.put h' f (changed both.x both.y both.at both.related)
-
 -- ---- the events of a client
+
+-- a client that refuses is as it was, but for its room
+pub refusal_keeps : {T : Type 0} (rule : Counting → Client → Result (Client × CoreReply T) CoreFault) (old new : Held) (answer : Result (CoreReply T) CoreFault) (fault : CoreFault)
+    → answer ≡ Err fault → ClientFollows rule old new answer → new ≡ record old { rooms = new.rooms }
+refusal_keeps rule old new answer fault e follows = (rw e at follows).0
 
 refusal_is : {T : Type 0} (fault : CoreFault) (ruled : Result (Client × CoreReply T) CoreFault) → (fault ≡ faults.Memory → ⊥) → IsRefusal fault ruled → ruled ≡ Err fault
 refusal_is faults.NoClient ruled other e = e
@@ -146,31 +137,46 @@ module _ {T Q : Type 0} (ops : Tagging T) (state : Q → State T) (event : CoreE
       let no = names_refused state core id s fault e in
       refused ops state event core fault no.0 (λ run r. event_is run ∙ no.1 run r (λ client u. rule run.counting client >>= λ (next, reply). Ok (with_client id next run, reply)))
 
+  -- a client as it was, with more room
+  more_room_for : (i : ℕ) (h' : Held) (run : Run T) (r : RepresentsRun state core run) (both : First (Matches run.counting) (λ c. is_client id c.id) core.clients run.clients i)
+      → (h'.id ≡ both.x.id) × KeepsRooms both.x h' → h' ≡ record both.x { rooms = h'.rooms } → RepresentsRun state (record core { clients = set core.clients i h' }) run
+  more_room_for i h' run r both fits same =
+      let m = both.related in
+      let matches : Matches run.counting (record both.x { rooms = h'.rooms }) both.y = record { id = m.id; pairs = m.pairs; tracker = m.tracker; form = m.form; most = m.most; servers = m.servers } in
+      let matched : Matches run.counting h' both.y = subst (λ (h : Held). Matches run.counting h both.y) (sym same) matches in
+      record {
+        servers = r.servers;
+        distinct = r.distinct;
+        clients = subst (λ (cs : List Client). AllZip (Matches run.counting) (set core.clients i h') cs) (not_changed (λ c. is_client id c.id) run.clients) (both.put h' (λ c. c) matched);
+        rooms = rooms_after_client state core.servers core.clients i both.x h' both.at fits.0 fits.1 r.rooms;
+      }
+
   pub client_follows : (i : ℕ) → place_of id s core ≡ Ok i → s.0 < length core.servers → (h' : Held) (answer : Result (CoreReply T) CoreFault)
+      → ((h : Held) → slice_get core.clients i ≡ Some h → (h'.id ≡ h.id) × KeepsRooms h h')
       → ((h : Held) → slice_get core.clients i ≡ Some h → ClientFollows rule h h' answer) → (answer ≡ Err faults.Memory → may_grow event ≡ true)
       → Follows ops state event core (record core { clients = set core.clients i h' }) answer
-  client_follows i place within h' (Ok reply) says grows = λ run r.
+  client_follows i place within h' (Ok reply) fits says grows = λ run r.
       let both = the_client state core run r id i (found_place id s core i place) in
       let server = the_server state core run r s within in
       let next = says both.x both.at run.counting both.y both.related in
       let whole : outcome ops run event ≡ Ok (with_client id next.next run, reply) = event_is run ∙ rw (both.found, server.found, next.ruled_is) refl in
-      rw whole (refl, record { servers = r.servers; clients = both.put h' (λ old. next.next) next.matches })
-  client_follows i place within h' (Err faults.Memory) says grows = (
+      rw whole (refl, record { servers = r.servers; distinct = r.distinct; clients = both.put h' (λ old. next.next) next.matches; rooms = rooms_after_client state core.servers core.clients i both.x h' both.at (fits both.x both.at).0 (fits both.x both.at).1 r.rooms })
+  client_follows i place within h' (Err faults.Memory) fits says grows = (
     grows refl,
     λ run r.
         let both = the_client state core run r id i (found_place id s core i place) in
         let server = the_server state core run r s within in
         let stays = says both.x both.at in
         let accepted = stays.1 run.counting both.y both.related in
-        (rw (event_is run, both.found, server.found) (accepted_on (rule run.counting both.y) id run accepted), rw (stays.0, set_same core.clients i both.x both.at) r),
+        (rw (event_is run, both.found, server.found) (accepted_on (rule run.counting both.y) id run accepted), more_room_for i h' run r both (fits both.x both.at) stays.0),
   )
-  client_follows i place within h' (Err fault) says grows = λ run r.
+  client_follows i place within h' (Err fault) fits says grows = λ run r.
       let both = the_client state core run r id i (found_place id s core i place) in
       let server = the_server state core run r s within in
       let stays = says both.x both.at in
       let e = refusal_is fault (rule run.counting both.y) (λ m. cc) (stays.1 run.counting both.y both.related) in
       let whole : outcome ops run event ≡ Err fault = event_is run ∙ rw (both.found, server.found, e) refl in
-      rw (whole, stays.0, set_same core.clients i both.x both.at) (refl, r)
+      rw whole (refl, more_room_for i h' run r both (fits both.x both.at) stays.0)
 
 -- ---- the commands to a queue
 
@@ -181,12 +187,21 @@ module _ {T Q : Type 0} (ops : Tagging T) (state : Q → State T) (event : CoreE
 
   pub server_follows : s.0 < length core.servers → (q' : Q) (reply : Reply T)
       → ((q : Q) → slice_get core.servers s.0 ≡ Some q → Steps ops (state q) (state q') command (Some reply))
+      → ((q : Q) → slice_get core.servers s.0 ≡ Some q → AllByRecursion (λ h. HasRoom s h (state q)) core.clients → AllByRecursion (λ h. HasRoom s h (state q')) core.clients)
       → Follows ops state event core (record core { servers = set core.servers s.0 q' }) (Ok (Served reply))
-  server_follows within q' reply steps = λ run r.
+  server_follows within q' reply steps fits = λ run r.
       let server = the_server state core run r s within in
       let stepped = steps server.x server.at in
       let whole : outcome ops run event ≡ Ok (with_server s ((step ops (state server.x) command).0) run, Served ((step ops (state server.x) command).1)) = event_is run ∙ rw server.found refl in
-      rw (whole, ap (λ p. p.1) stepped) (refl, record { servers = server.put q' _ (ap (λ p. p.0) stepped); clients = r.clients })
+      rw (whole, ap (λ p. p.1) stepped) (
+        refl,
+        record {
+          servers = server.put q' _ (ap (λ p. p.0) stepped);
+          distinct = distinct_after ops run.servers s.0 (state server.x) command server.found r.distinct;
+          clients = r.clients;
+          rooms = rooms_after_server state core.servers core.clients s q' (fits server.x server.at (r.rooms s server.x server.at)) r.rooms;
+        },
+      )
 
 -- ---- the commands that are events of a cluster as they are
 
@@ -196,7 +211,8 @@ served_is ops s (commands.Register client info at) event h run = absurd h
 served_is ops s (commands.Update client info at) event h run = rw h refl
 served_is ops s (commands.Add client token params at) event h run = absurd h
 served_is ops s (commands.Pull at) event h run = absurd h
-served_is ops s (commands.Remove client) event h run = rw h refl
+served_is ops s (commands.Remove client) event h run = absurd h
+served_is ops s (commands.Cancel client token counting) event h run = absurd h
 served_is ops s (commands.Clean at) event h run = rw h refl
 
 pub served_takes_none : (s : ServerId) (command : Command) (event : CoreEvent) → IsServed s command event → IsTrue (steps_of.may_grow command) → ⊥
@@ -204,5 +220,6 @@ served_takes_none s (commands.Register client info at) event h grows = h
 served_takes_none s (commands.Update client info at) event h grows = cc
 served_takes_none s (commands.Add client token params at) event h grows = h
 served_takes_none s (commands.Pull at) event h grows = h
-served_takes_none s (commands.Remove client) event h grows = cc
+served_takes_none s (commands.Remove client) event h grows = h
+served_takes_none s (commands.Cancel client token counting) event h grows = h
 served_takes_none s (commands.Clean at) event h grows = cc

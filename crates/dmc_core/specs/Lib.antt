@@ -1,5 +1,5 @@
 -- A cluster run: a plain state per server, a tracker list per client, and per pair of a client and a server the messages
--- in flight and the counts of grants not yet responded.
+-- in flight and the grants not yet responded.
 pub mod Run
 -- What each event makes of a cluster run, and its reply. A refused event changes nothing.
 pub mod Events

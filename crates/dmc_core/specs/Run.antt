@@ -1,6 +1,6 @@
 -- A cluster run: a plain state per server, a tracker list per client, and per pair of a client and a server the messages
--- in flight and the counts of grants not yet responded.
-use Rattle.std.specs.Prelude.{ℕ, ◌-◌, ◌^◌, Bool, ◌||◌, ◌==◌, if◌then◌else◌, List, [], ◌∷◌, slice_get, slice_index_or, slice_set, Result}
+-- in flight and the grants not yet responded.
+use Rattle.std.specs.Prelude.{ℕ, ◌-◌, ◌^◌, Bool, ◌||◌, ◌==◌, if◌then◌else◌, List, [], ◌∷◌, length, slice_get, slice_index_or, slice_set, Result}
 use Rattle.std.specs.List.{find, list_any}
 use Rattle.std.specs.Option.{ok_or}
 use Rattle.dmc_types.specs.Limits as limits
@@ -19,9 +19,9 @@ use Rattle.dmc_core.specs.declared.event.CoreFault.TheVariants.{NoClient, NoServ
 pub record Pair : Type 0 where
   -- stamped and not yet arrived, oldest first
   pub flight : List Message
-  -- grants of each phase that are not yet responded
-  pub reservation : ℕ
-  pub priority : ℕ
+  -- the costs of the grants of each phase that are not yet responded, in the order of the grants
+  pub reservation : List ℕ
+  pub priority : List ℕ
 
 pub record Client : Type 0 where
   pub id : ClientId
@@ -52,7 +52,7 @@ max_grants = 2 ^ 32 - 1
 -- ---- pairs
 
 abbrev pub no_pair : Pair
-no_pair = record { flight = []; reservation = 0; priority = 0 }
+no_pair = record { flight = []; reservation = []; priority = [] }
 
 abbrev pub pair_at : ServerId → List Pair → Pair
 pair_at s pairs = slice_index_or pairs s.0 no_pair
@@ -63,17 +63,22 @@ with_pair s pair pairs = slice_set pairs s.0 pair
 abbrev pub with_flight : List Message → Pair → Pair
 with_flight flight pair = record pair { flight = flight }
 
-abbrev pub grants : PhaseType → Pair → ℕ
+abbrev pub grants : PhaseType → Pair → List ℕ
 grants Reservation pair = pair.reservation
 grants Priority pair = pair.priority
 
-abbrev pub with_grants : PhaseType → ℕ → Pair → Pair
-with_grants Reservation count pair = record pair { reservation = count }
-with_grants Priority count pair = record pair { priority = count }
+abbrev pub with_grants : PhaseType → List ℕ → Pair → Pair
+with_grants Reservation costs pair = record pair { reservation = costs }
+with_grants Priority costs pair = record pair { priority = costs }
 
--- one of its counts can't grow
-abbrev pub has_full_count : Pair → Bool
-has_full_count pair = (pair.reservation == max_grants) || (pair.priority == max_grants)
+-- the grants of one of its phases are as many as there may be
+abbrev pub are_full : Pair → Bool
+are_full pair = (length pair.reservation == max_grants) || (length pair.priority == max_grants)
+
+-- without the first of these costs that is this one
+abbrev pub without_first : ℕ → List ℕ → List ℕ
+without_first cost [] = []
+without_first cost (c ∷ cs) = if c == cost then cs else c ∷ without_first cost cs
 
 -- ---- clients and servers by their names
 
@@ -97,6 +102,6 @@ client_of run id = ok_or (find (λ c. is_client id c.id) run.clients) NoClient
 abbrev pub server_of : {T : Type 0} → Run T → ServerId → Result (State T) CoreFault
 server_of run s = ok_or (slice_get run.servers s.0) NoServer
 
--- one of the server's counts can't grow
+-- the grants of the server to a client in one of the phases are as many as there may be
 abbrev pub are_grants_full : ServerId → List Client → Bool
-are_grants_full s clients = list_any (λ c. has_full_count (pair_at s c.pairs)) clients
+are_grants_full s clients = list_any (λ c. are_full (pair_at s c.pairs)) clients

@@ -1,16 +1,18 @@
 //! A client of the cluster: its tracker, and what is under way between it and each server.
-ghost use Rattle.std.specs.Prelude.{◌≡◌, ◌≢◌, ◌+◌, ◌-◌, ◌<◌, ◌≤◌, drop, length, map, replicate, slice_get, Err, IfOk, OnOk};
+ghost use Rattle.std.specs.List.{list_any};
+ghost use Rattle.std.specs.Prelude.{◌≡◌, ◌≢◌, ◌⊎◌, ◌-◌, ◌<◌, ◌≤◌, [], ◌∷◌, ◌++◌, drop, length, map, replicate, slice_get, slice_set, Err, IfOk, OnOk, IsTrue, ◌==◌};
 ghost use Rattle.dmc_types.specs.Limits.{max_servers};
 ghost use Rattle.dmc_tracker.specs.Numbers.{new_numbers};
-ghost use Rattle.dmc_core.specs.Core.{ClientFollows};
+ghost use Rattle.dmc_core.specs.Core.{ClientFollows, no_room, room_at, room_for};
 ghost use Rattle.dmc_core.specs.Events.{stamp, response};
-ghost use Rattle.dmc_core.specs.internal.Parts.{pair_of, KeepsGrants};
-ghost use Rattle.dmc_core.specs.Run.{max_completions, no_pair, grants, pair_at, with_pair, with_flight, with_grants, max_grants};
+ghost use Rattle.dmc_core.specs.internal.Parts.{pair_of, room_of, KeepsGrants, KeepsRooms};
+ghost use Rattle.dmc_core.specs.Run.{max_completions, no_pair, grants, pair_at, with_pair, with_flight, with_grants, without_first};
 
 use crate::event::{CoreFault, CoreReply, Message};
 use crate::pair::Pairing;
 use dmc_tracker::tracker::ServiceTracker;
 use dmc_types::config::{Counting, PhaseType};
+use dmc_types::cost::Cost;
 use dmc_types::ids::{ClientId, ServerId, Token};
 use std::alloc::{AllocError, Global};
 use std::marker::Model;
@@ -32,9 +34,14 @@ impl Model for CoreClient {
 
     ghost Value = { Held };
 
-    ghost use Rattle.dmc_core.specs.internal.Parts.{pair_of};
+    ghost use Rattle.dmc_core.specs.internal.Parts.{pair_of, room_of};
 
-    ghost view = { λ c. record { id = c.id; tracker = c.tracker; pairs = map pair_of c.pairs.items } };
+    ghost view = { λ c. record {
+      id = c.id;
+      tracker = c.tracker;
+      pairs = map pair_of c.pairs.items;
+      rooms = map room_of c.pairs.items;
+    } };
 }
 
 impl CoreClient {
@@ -51,6 +58,7 @@ impl CoreClient {
           id = id;
           tracker = new_numbers counting max_completions servers;
           pairs = replicate servers no_pair;
+          rooms = replicate servers no_room;
         }) }
     {
         let Ok(tracker) = ServiceTracker::new(alloc, servers, MAX_RUN_COMPLETIONS, counting) else {
@@ -65,54 +73,66 @@ impl CoreClient {
 
     /// Stamps a request to a server; the message is the last in flight. Refused `FlightFull`, `TrackFull`, `Memory`, in this
     /// order.
-    pub fn stamp<T>(&mut self, server: ServerId, token: Token) -> Result<CoreReply<T>, CoreFault>
+    pub fn stamp<T>(
+        &mut self,
+        server: ServerId,
+        token: Token,
+        cost: Cost,
+    ) -> Result<CoreReply<T>, CoreFault>
         requires { server.0 < length self.old.pairs }
         ensures id { self.new.id ≡ self.old.id }
         ensures grants { KeepsGrants self.old.pairs self.new.pairs }
-        ensures follows { ClientFollows (λ counting c. stamp counting server token c) self.old self.new result }
+        ensures rooms { KeepsRooms self.old self.new }
+        ensures follows { ClientFollows (λ counting c. stamp counting server token cost c) self.old self.new result }
     {
         let pair = &mut self.pairs[server.0 as usize];
         if pair.is_flight_full() {
             return Err(CoreFault::FlightFull);
         }
-        self.tracker.can_stamp(server)?;
+        self.tracker.can_stamp(server, cost)?;
         pair.reserve()?;
-        let params = self.tracker.stamp_checked(server);
+        let params = self.tracker.stamp_checked(server, cost);
         pair.send(Message { token, params });
         Ok(CoreReply::Stamped(params))
     }
 
     /// How many grants of a server in a phase wait for their responses.
-    pub fn grants(&self, server: ServerId, phase: PhaseType) -> u32
+    pub fn grant_count(&self, server: ServerId, phase: PhaseType) -> usize
         requires { server.0 < length self.now.pairs }
-        ensures { result ≡ grants phase (pair_at server self.now.pairs) }
+        ensures { result ≡ length (grants phase (pair_at server self.now.pairs)) }
     {
-        self.pairs[server.0 as usize].grants(phase)
+        self.pairs[server.0 as usize].grant_count(phase)
     }
 
-    /// Takes one from the grants of a server in a phase that wait for their responses, and counts the completion. Refused
-    /// `NoGrant`, `TrackFull`, in this order.
+    /// The first grant of this cost, of a server in a phase, no longer waits for its response, and the completion is counted.
+    /// Refused `NoGrant`, `TrackFull`, in this order.
     pub fn respond<T>(
         &mut self,
         server: ServerId,
         phase: PhaseType,
+        cost: Cost,
     ) -> Result<CoreReply<T>, CoreFault>
         requires { server.0 < length self.old.pairs }
         ensures id { self.new.id ≡ self.old.id }
         ensures pairs { OnOk result (self.new.pairs ≡ with_pair server
-            (with_grants phase (grants phase (pair_at server self.old.pairs) - 1) (pair_at server self.old.pairs)) self.old.pairs) }
-        ensures some { OnOk result (0 < grants phase (pair_at server self.old.pairs)) }
+            (with_grants phase (without_first cost (grants phase (pair_at server self.old.pairs))) (pair_at server self.old.pairs)) self.old.pairs) }
+        ensures rooms { KeepsRooms self.old self.new }
+        ensures some { OnOk result (IsTrue (list_any (λ c. c == cost) (grants phase (pair_at server self.old.pairs)))) }
         ensures no_growth { result ≢ Err CoreFault.Memory }
-        ensures follows { ClientFollows (λ counting c. response server phase c) self.old self.new result }
+        ensures follows { ClientFollows (λ counting c. response server phase cost c) self.old self.new result }
     {
         let pair = &mut self.pairs[server.0 as usize];
-        let count = pair.grants(phase);
-        if count == 0 {
-            return Err(CoreFault::NoGrant);
-        }
-        self.tracker.track_resp(server, phase)?;
-        pair.set_grants(phase, count - 1);
+        let place = pair.grant_of(phase, cost).ok_or(CoreFault::NoGrant)?;
+        self.tracker.track_resp(server, phase, cost)?;
+        pair.end_grant(phase, place);
         Ok(CoreReply::Counted)
+    }
+
+    /// The costs of its completions, and of those in the constraint phase.
+    pub fn completions(&self) -> (u64, u64)
+        ensures { result ≡ (self.now.tracker.completions.delta, self.now.tracker.completions.rho) }
+    {
+        self.tracker.completions()
     }
 
     /// The oldest message in flight to a server.
@@ -134,26 +154,45 @@ impl CoreClient {
         self.pairs[server.0 as usize].take_oldest();
     }
 
-    /// Adds one to the grants of a server in a phase that wait for their responses, and answers how many wait then.
-    pub fn add_grant(&mut self, server: ServerId, phase: PhaseType) -> u32
+    /// A server granted a request in a phase, which waits for its response now.
+    pub fn add_grant(&mut self, server: ServerId, phase: PhaseType, cost: Cost)
         requires within { server.0 < length self.old.pairs }
-        requires room { grants phase (pair_at server self.old.pairs) ≢ max_grants }
-        ensures count { result ≡ grants phase (pair_at server self.old.pairs) + 1 }
-        ensures pairs { self.new ≡ record self.old {
-          pairs = with_pair server
-              (with_grants phase (grants phase (pair_at server self.old.pairs) + 1) (pair_at server self.old.pairs)) self.old.pairs;
+        ensures id { self.new.id ≡ self.old.id }
+        ensures tracker { self.new.tracker ≡ self.old.tracker }
+        ensures either { (self.new.pairs ≡ self.old.pairs) ⊎ (self.new.pairs ≡ with_pair server
+            (with_grants phase (grants phase (pair_at server self.old.pairs) ++ cost ∷ []) (pair_at server self.old.pairs)) self.old.pairs) }
+        ensures granted { length (grants phase (pair_at server self.old.pairs)) < room_for phase (room_at server self.old.rooms)
+            → (self.new.pairs ≡ with_pair server
+            (with_grants phase (grants phase (pair_at server self.old.pairs) ++ cost ∷ []) (pair_at server self.old.pairs)) self.old.pairs)
+            × ((room_at server self.new.rooms).waiting ≡ (room_at server self.old.rooms).waiting - 1) }
+        ensures as_much { (phase : PhaseType) → room_for phase (room_at server self.old.rooms) ≤ room_for phase (room_at server self.new.rooms) }
+        ensures elsewhere { (other : ServerId) → (other.0 ≡ server.0 → ⊥) → room_at other self.new.rooms ≡ room_at other self.old.rooms }
+    {
+        self.pairs[server.0 as usize].add_grant(phase, cost);
+    }
+
+    /// The form of counting of its stamps.
+    pub fn counting(&self) -> Counting
+        ensures { result ≡ self.now.tracker.counting }
+    {
+        self.tracker.counting()
+    }
+
+    /// A server took out this number of the client's queued requests. They will not be granted.
+    pub fn forget(&mut self, server: ServerId, count: u32)
+        requires within { server.0 < length self.old.pairs }
+        ensures { self.new ≡ record self.old {
+          rooms = slice_set self.old.rooms server.0 (record (room_at server self.old.rooms) { waiting = (room_at server self.old.rooms).waiting - count });
         } }
     {
-        let pair = &mut self.pairs[server.0 as usize];
-        let count = pair.grants(phase) + 1;
-        pair.set_grants(phase, count);
-        count
+        self.pairs[server.0 as usize].forget(count);
     }
 }
 
 /// With nothing under way at any server.
 fn no_pairs(alloc: Global, servers: usize) -> Result<Vec<Pairing>, AllocError>
-    ensures { IfOk result (λ pairs. map pair_of pairs.items ≡ replicate servers no_pair) }
+    ensures pairs { IfOk result (λ pairs. map pair_of pairs.items ≡ replicate servers no_pair) }
+    ensures rooms { IfOk result (λ pairs. map room_of pairs.items ≡ replicate servers no_room) }
 {
     let mut pairs = Vec::with_capacity(alloc, servers)?;
     for _ in 0..servers {

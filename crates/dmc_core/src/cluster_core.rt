@@ -1,10 +1,11 @@
 //! The cluster core: the cluster over indexed queues with heaps.
+ghost use Rattle.std.specs.List.{find};
 ghost use Rattle.std.specs.Prelude.{◌≡◌, IfOk, length, slice_get};
 ghost use Rattle.std.specs.Option.{option_map};
-ghost use Rattle.dmc_core.specs.Core.{Follows, RepresentsRun};
+ghost use Rattle.dmc_core.specs.Core.{Follows, RepresentsRun, completions_of};
 ghost use Rattle.dmc_core.specs.Opening.{HaveSpacings, opening_of};
 ghost use Rattle.dmc_pull.specs.Queue.{state_of};
-ghost use Rattle.dmc_tag.specs.State.{queued_requests};
+ghost use Rattle.dmc_tag.specs.State.{queued_requests, is_client};
 
 use crate::cluster::Cluster;
 use crate::event::{CoreEvent, CoreFault, CoreReply};
@@ -14,14 +15,14 @@ use dmc_pull::queue::PullQueue;
 use dmc_scene::scene::Scene;
 use dmc_tag::scheduler::Scheduler;
 use dmc_tag::tag::Tag;
-use dmc_types::ids::ServerId;
+use dmc_types::ids::{ClientId, ServerId};
 use std::alloc::{AllocError, Global};
 use std::marker::Model;
 
 /// One thread's cluster: a queue of dmClock per server (indexed, over heaps), a service tracker per client, and per pair of a
 /// client and a server the messages in flight and the grants that wait for their responses.
 ///
-/// Contracts see each server's queue, and each client with its tracker's numbers, messages and counts. Which states of a
+/// Contracts see each server's queue, and each client with its tracker's numbers, messages and grants. Which states of a
 /// cluster run the core represents says `RepresentsRun` (`specs/Core.antt`); what a run is and what an event makes of it,
 /// `specs/Run.antt` and `specs/Events.antt`. A client is found where a table of hints has it, or else by a hash of its id, and
 /// a server by its index. No call walks over clients or servers but inside a queue, as a clean does.
@@ -61,6 +62,13 @@ impl<T: Tag> ClusterCore<T> {
         ensures { Follows T.ops state_of event self.old self.new result }
     {
         self.cluster.carry_out(event)
+    }
+
+    /// The costs of a client's completions, and of those in the constraint phase; `None` if the cluster has no such client.
+    pub fn completions(&self, client: ClientId) -> Option<(u64, u64)>
+        ensures { result ≡ option_map completions_of (find (λ h. is_client client h.id) self.now.clients) }
+    {
+        self.cluster.completions(client)
     }
 
     /// How many requests are queued at a server, if there is such a server.

@@ -4,6 +4,7 @@ ghost use Rattle.std.specs.Prelude.{◌≡◌, ⊤};
 use dmc_tag::reply::Reply;
 use dmc_tracker::tracker::TrackFault;
 use dmc_types::config::PhaseType;
+use dmc_types::cost::Cost;
 use dmc_types::ids::{ClientId, ServerId, Token};
 use dmc_types::info::ClientInfo;
 use dmc_types::moment::Moment;
@@ -11,7 +12,7 @@ use dmc_types::params::ReqParams;
 use std::alloc::AllocError;
 use thiserror::Error;
 
-/// A request that was stamped and has not yet arrived: what the client names it by, and the two counts of its stamp.
+/// A request that was stamped and has not yet arrived: what the client names it by, the two counts of its stamp, and its cost.
 #[derive(Clone, Copy, Debug, PartialEq, Eq)]
 pub struct Message {
     pub token: Token,
@@ -21,11 +22,12 @@ pub struct Message {
 /// One event of a cluster. Moments are in ticks, and a moment that goes back is no refusal.
 #[derive(Clone, Copy, Debug, PartialEq, Eq)]
 pub enum CoreEvent {
-    /// A client stamps a request to a server: its tracker gives the counts, and the message is in flight.
+    /// A client stamps a request of a cost to a server: its tracker gives the counts, and the message is in flight.
     Stamp {
         client: ClientId,
         server: ServerId,
         token: Token,
+        cost: Cost,
     },
     /// The oldest message in flight from a client to a server arrives at the server's queue.
     Arrive {
@@ -38,11 +40,12 @@ pub enum CoreEvent {
         server: ServerId,
         at: Moment,
     },
-    /// A client hears of a request that a server granted in a phase: its tracker counts the completion.
+    /// A client hears of a request of a cost that a server granted in a phase: its tracker counts the completion.
     Respond {
         client: ClientId,
         server: ServerId,
         phase: PhaseType,
+        cost: Cost,
     },
     /// A server replaces a client's rates.
     Update {
@@ -56,6 +59,13 @@ pub enum CoreEvent {
         server: ServerId,
         client: ClientId,
     },
+    /// A server takes out a client's queued requests with a token. What they were charged is given back, if the client's stamps
+    /// counted it, as they do in the form `Others` of counting.
+    Cancel {
+        server: ServerId,
+        client: ClientId,
+        token: Token,
+    },
     /// A server marks clients idle, and erases old ones.
     Clean {
         server: ServerId,
@@ -66,7 +76,7 @@ pub enum CoreEvent {
 /// The reply to an event.
 #[derive(Copy, Debug, PartialEq, Eq)]
 pub enum CoreReply<T> {
-    /// The request is stamped with these counts.
+    /// The request is stamped with these counts, and the cost.
     Stamped(ReqParams),
     /// What the server's queue replied. If it refused the command, nothing has changed; a message that it refused is
     /// still the oldest in flight.
@@ -88,7 +98,7 @@ impl<T: Copy> Clone for CoreReply<T> {
 /// Why an event is refused. It has changed nothing. Of several causes the first is reported, in this order.
 #[derive(Clone, Copy, Debug, PartialEq, Eq, Error)]
 pub enum CoreFault {
-    /// The cluster has no such client (`Stamp`, `Arrive`, `Respond`).
+    /// The cluster has no such client (`Stamp`, `Arrive`, `Respond`, `Cancel`).
     #[error("the cluster has no such client")]
     NoClient,
     /// The cluster has no such server.
@@ -103,10 +113,11 @@ pub enum CoreFault {
     /// 2^32-1 grants of the server to some client, all in one phase, wait for their responses (`Pull`).
     #[error("too many grants wait for their responses")]
     GrantsFull,
-    /// No grant of the server to the client in the phase waits for its response (`Respond`).
+    /// No grant of this cost, of the server to the client in the phase, waits for its response (`Respond`). Grants may complete in
+    /// any order.
     #[error("no grant waits for its response")]
     NoGrant,
-    /// The client's tracker would count past 2^32-1 (`Stamp`, `Respond`).
+    /// The client's tracker would count past 2^32-1 units of cost (`Stamp`, `Respond`).
     #[error("the tracker has counted its most")]
     TrackFull,
     /// The allocator refused a growth (`Stamp`, `Arrive`).

@@ -1,4 +1,4 @@
-//! A server of the cluster: its queue, and how many of its counts of grants can't grow.
+//! A server of the cluster: its queue, and how many of its lists of grants can't grow.
 ghost use Rattle.std.specs.Prelude.{◌≡◌, Some};
 ghost use Rattle.std.specs.Result.{result_ok};
 ghost use Rattle.dmc_tag.specs.Steps.{Steps};
@@ -14,7 +14,7 @@ use dmc_types::ids::ClientId;
 use dmc_types::moment::Moment;
 use std::alloc::AllocError;
 
-/// A server. It knows how many of its counts of grants are 2^32-1, so that a pull need not look at the clients.
+/// A server. It knows how many of its lists of grants have 2^32-1 of them, so that a pull need not look at the clients.
 #[derive(Drop)]
 pub struct CoreServer<Q> {
     pub queue: Q,

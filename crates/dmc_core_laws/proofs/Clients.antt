@@ -1,5 +1,5 @@
 -- What an event makes of a client of a cluster run: its arrivals at a server follow its stamps, and its list is tracked.
-use Rattle.std.proofs.Common.{◌≡◌, ℕ, zero, suc, ◌+◌, ◌-◌, ◌<◌, Bool, true, false, true≢false, cond, ◌==◌, List, [], ◌∷◌, ◌++◌, map, length, set, get_or, slice_get, Some, refl, sym, ap, ◌∙◌, subst, arith, append_assoc}
+use Rattle.std.proofs.Common.{◌≡◌, ℕ, zero, suc, ◌<◌, Bool, true, false, true≢false, cond, ◌==◌, List, [], ◌∷◌, ◌++◌, map, length, set, get_or, slice_get, Some, refl, sym, ap, ◌∙◌, subst, arith, append_assoc}
 use Rattle.std.specs.Prelude.{Ok, drop, if◌then◌else◌}
 use Rattle.std.specs.List.{find}
 use Rattle.std.proofs.lemmas.List.{length-set, get_or-set_same, get_or-set_other, append-nil, map-append}
@@ -23,7 +23,7 @@ use Rattle.dmc_tracker.specs.TrackerList.{demanded, skips, IsTracked}
 use Rattle.dmc_tracker.proofs.ForCallers.{IsTracked-stamp, IsTracked-response, skips-stamp, skips-response}
 use Rattle.dmc_core.specs.declared.event.Message.{Message}
 use Rattle.dmc_core.specs.declared.event.CoreReply.TheVariants.{Served}
-use Rattle.dmc_core.specs.Run.{Pair, Client, no_pair, pair_at, with_pair, with_flight, grants, with_grants, change_first}
+use Rattle.dmc_core.specs.Run.{Pair, Client, no_pair, pair_at, with_pair, with_flight, grants, with_grants, without_first, change_first}
 use Rattle.dmc_core.specs.Events.{after_stamp, after_arrival, client_after_arrival, after_grant, after_response}
 use Rattle.dmc_core_laws.specs.Histories.{is_server, recorded_events, entry}
 use Rattle.dmc_core_laws.specs.Bounds.{stamp_in, stamps_to}
@@ -61,7 +61,7 @@ flight_kept (p ∷ pairs) zero (suc j) y e = refl
 flight_kept (p ∷ pairs) (suc i) zero y e = refl
 flight_kept (p ∷ pairs) (suc i) (suc j) y e = flight_kept pairs i j y e
 
-grants_leave_flight : (phase : PhaseType) (n : ℕ) (pair : Pair) → (with_grants phase n pair).flight ≡ pair.flight
+grants_leave_flight : (phase : PhaseType) (n : List ℕ) (pair : Pair) → (with_grants phase n pair).flight ≡ pair.flight
 grants_leave_flight Reservation n pair = refl
 grants_leave_flight Priority n pair = refl
 
@@ -101,13 +101,13 @@ module _ (counting : Counting) (s : ServerId) (arrived : List Params) (c : Clien
   abbrev with_message : ServerId → Message → Pair
   with_message q m = with_flight ((pair_at q c.pairs).flight ++ m ∷ []) (pair_at q c.pairs)
 
-  abbrev without_first : ServerId → Pair
-  without_first q = with_flight (drop 1 (pair_at q c.pairs).flight) (pair_at q c.pairs)
+  abbrev without_oldest : ServerId → Pair
+  without_oldest q = with_flight (drop 1 (pair_at q c.pairs).flight) (pair_at q c.pairs)
 
   -- a message more, by a stamp to q
-  pub stamp_follows : (q : ServerId) (m : Message) → m.params ≡ demanded counting q c.list → IsFollowed counting s arrived (after_stamp q m c)
-  stamp_follows q m due = record {
-    tracked = IsTracked-stamp counting c.list q m.params due f.tracked;
+  pub stamp_follows : (q : ServerId) (m : Message) (cost : ℕ) → m.params ≡ demanded counting q cost c.list → IsFollowed counting s arrived (after_stamp q m c)
+  stamp_follows q m cost due = record {
+    tracked = IsTracked-stamp counting c.list q cost m.params due f.tracked;
     unskipped = skips-stamp s c.list q m.params ∙ f.unskipped;
     paired = paired_after q _;
     stamps = by (q.0 == s.0) refl ∙ sym (stamps_push s c.list (entries.Stamp q m.params));
@@ -127,19 +127,19 @@ module _ (counting : Counting) (s : ServerId) (arrived : List Params) (c : Clien
           rw e (ap (λ (x : Pair). arrived ++ params_in x.flight) (get_or-set_other c.pairs q.0 s.0 (with_message q m) no_pair (λ same. eqb-false q.0 s.0 e (sym same)))
           ∙ f.stamps ∙ sym (append-nil (stamps_to s c.list)))
 
-  -- a change of the counts of grants at q
-  regranted : (q : ServerId) (phase : PhaseType) (n : ℕ) → arrived ++ params_in (pair_at s (with_pair q (with_grants phase n (pair_at q c.pairs)) c.pairs)).flight ≡ stamps_to s c.list
+  -- a change of the grants at q
+  regranted : (q : ServerId) (phase : PhaseType) (n : List ℕ) → arrived ++ params_in (pair_at s (with_pair q (with_grants phase n (pair_at q c.pairs)) c.pairs)).flight ≡ stamps_to s c.list
   regranted q phase n = ap (λ (ms : List Message). arrived ++ params_in ms) (flight_kept c.pairs q.0 s.0 (with_grants phase n (pair_at q c.pairs)) (grants_leave_flight phase n (pair_at q c.pairs))) ∙ f.stamps
 
-  pub grant_follows : (q : ServerId) (phase : PhaseType) → IsFollowed counting s arrived (after_grant q phase c)
-  grant_follows q phase = record { tracked = f.tracked; unskipped = f.unskipped; paired = paired_after q _; stamps = regranted q phase (grants phase (pair_at q c.pairs) + 1) }
+  pub grant_follows : (q : ServerId) (phase : PhaseType) (cost : ℕ) → IsFollowed counting s arrived (after_grant q phase cost c)
+  grant_follows q phase cost = record { tracked = f.tracked; unskipped = f.unskipped; paired = paired_after q _; stamps = regranted q phase (grants phase (pair_at q c.pairs) ++ cost ∷ []) }
 
-  pub response_follows : (q : ServerId) (phase : PhaseType) → IsFollowed counting s arrived (after_response q phase c)
-  response_follows q phase = record {
-    tracked = IsTracked-response counting c.list q phase f.tracked;
-    unskipped = skips-response s c.list q phase ∙ f.unskipped;
+  pub response_follows : (q : ServerId) (phase : PhaseType) (cost : ℕ) → IsFollowed counting s arrived (after_response q phase cost c)
+  response_follows q phase cost = record {
+    tracked = IsTracked-response counting c.list q phase cost f.tracked;
+    unskipped = skips-response s c.list q phase cost ∙ f.unskipped;
     paired = paired_after q _;
-    stamps = regranted q phase (grants phase (pair_at q c.pairs) - 1) ∙ sym (stamps_push s c.list (entries.Response q phase) ∙ append-nil (stamps_to s c.list));
+    stamps = regranted q phase (without_first cost (grants phase (pair_at q c.pairs))) ∙ sym (stamps_push s c.list (entries.Response q phase cost) ∙ append-nil (stamps_to s c.list));
   }
 
   -- a reply that is no acceptance
@@ -170,27 +170,27 @@ module _ (counting : Counting) (s : ServerId) (arrived : List Params) (c : Clien
     accepted : (tags : Tags T) → Follows (replies.Tagged tags)
     accepted tags = record { tracked = f.tracked; unskipped = f.unskipped; paired = paired_after q _; stamps = by (q.0 == s.0) refl }
       where
-        by : (b : Bool) → (q.0 == s.0) ≡ b → (arrived ++ params_of (arrivals id (recorded_events b (Some (commands.Add id m.token m.params at)) (Ok (Served (replies.Tagged tags)))))) ++ params_in (pair_at s (with_pair q (without_first q) c.pairs)).flight ≡ stamps_to s c.list
+        by : (b : Bool) → (q.0 == s.0) ≡ b → (arrived ++ params_of (arrivals id (recorded_events b (Some (commands.Add id m.token m.params at)) (Ok (Served (replies.Tagged tags)))))) ++ params_in (pair_at s (with_pair q (without_oldest q) c.pairs)).flight ≡ stamps_to s c.list
         by true e =
             let own : is_client id id ≡ true = eq-eqb id.0 id.0 refl in
             let place : q.0 ≡ s.0 = eqb-true q.0 s.0 e in
-            let here : get_or (set c.pairs q.0 (without_first q)) s.0 no_pair ≡ without_first q = rw (← place) (get_or-set_same c.pairs q.0 (without_first q) no_pair (rw place f.paired)) in
+            let here : get_or (set c.pairs q.0 (without_oldest q)) s.0 no_pair ≡ without_oldest q = rw (← place) (get_or-set_same c.pairs q.0 (without_oldest q) no_pair (rw place f.paired)) in
             let old : (pair_at q c.pairs).flight ≡ flight = ap (λ i. (get_or c.pairs i no_pair).flight) place in
             rw own (ap (λ (x : Pair). (arrived ++ m.params ∷ []) ++ params_in x.flight) here
-            ∙ append_assoc arrived (m.params ∷ []) (params_in (without_first q).flight)
+            ∙ append_assoc arrived (m.params ∷ []) (params_in (without_oldest q).flight)
             ∙ ap (λ ps. arrived ++ ps) (sym (params_front m (pair_at q c.pairs).flight first))
             ∙ ap (λ (ms : List Message). arrived ++ params_in ms) old
             ∙ f.stamps)
         by false e =
-            ap (λ ps. ps ++ params_in (pair_at s (with_pair q (without_first q) c.pairs)).flight) (append-nil arrived)
-            ∙ ap (λ (x : Pair). arrived ++ params_in x.flight) (get_or-set_other c.pairs q.0 s.0 (without_first q) no_pair (λ same. eqb-false q.0 s.0 e (sym same)))
+            ap (λ ps. ps ++ params_in (pair_at s (with_pair q (without_oldest q) c.pairs)).flight) (append-nil arrived)
+            ∙ ap (λ (x : Pair). arrived ++ params_in x.flight) (get_or-set_other c.pairs q.0 s.0 (without_oldest q) no_pair (λ same. eqb-false q.0 s.0 e (sym same)))
             ∙ f.stamps
 
     pub arrival_follows : (reply : Reply T) → Follows reply
     arrival_follows (replies.Tagged tags) = accepted tags
     arrival_follows replies.Registered = unaccepted replies.Registered (λ pair. refl) refl
     arrival_follows replies.Updated = unaccepted replies.Updated (λ pair. refl) refl
-    arrival_follows (replies.Granted client token phase beyond) = unaccepted (replies.Granted client token phase beyond) (λ pair. refl) refl
+    arrival_follows (replies.Granted client token phase beyond cost) = unaccepted (replies.Granted client token phase beyond cost) (λ pair. refl) refl
     arrival_follows (replies.Later n) = unaccepted (replies.Later n) (λ pair. refl) refl
     arrival_follows replies.Nothing = unaccepted replies.Nothing (λ pair. refl) refl
     arrival_follows (replies.Removed count) = unaccepted (replies.Removed count) (λ pair. refl) refl

@@ -8,13 +8,13 @@ use Rattle.dmc_types.specs.Values.{Params, Counts, no_counts, counts_of}
 use Rattle.dmc_types.specs.declared.ids.ClientId.{ClientId}
 use Rattle.dmc_types.specs.declared.ids.ServerId.{ServerId}
 use Rattle.dmc_types.specs.declared.command.Command.{Command}
-use Rattle.dmc_types.specs.declared.command.Command.TheVariants.{Register, Update, Add, Pull, Remove, Clean}
+use Rattle.dmc_types.specs.declared.command.Command.TheVariants.{Register, Update, Add, Pull, Remove, Cancel, Clean}
 use Rattle.dmc_types.specs.declared.config.Counting.TheVariants.{All}
 use Rattle.dmc_types.specs.declared.config.PhaseType.{PhaseType}
 use Rattle.dmc_tag.specs.declared.event.Event.{Event}
 use Rattle.dmc_tag.specs.declared.reply.Reply.{Reply}
 use Rattle.dmc_tag.specs.declared.reply.Reply.TheVariants.{Registered, Updated, Tagged, Granted, Later, Nothing, Removed, Cleaned, Refused}
-use Rattle.dmc_history_laws.specs.Bounds.{Arrival, Arrives, IsOf, Span, arrival_of, arrivals, departures, sum_of}
+use Rattle.dmc_history_laws.specs.Bounds.{Arrival, Arrives, IsOf, SpanBy, arrival_of, arrivals, sum_of}
 use Rattle.dmc_history_laws.proofs.ForCallers.{arrivals-append, take_one}
 use Rattle.dmc_tracker.specs.declared.event.TrackerEvent.{TrackerEvent}
 use Rattle.dmc_tracker.specs.declared.event.TrackerEvent.TheVariants.{Stamp, Skip, Response}
@@ -56,9 +56,9 @@ module _ (s : ServerId) where
   past before es e i same rest =
       ap (λ xs. (completions xs).delta) (sym (append_assoc before (e ∷ []) (before_stamp s i es))) ∙ rest ∙ ap (λ n. n + deltas (take (suc i) (stamps_to s es))) same
 
-  at_response : (before es : List TrackerEvent) (q : ServerId) (phase : PhaseType) (i : ℕ) → Upto (before ++ Response q phase ∷ []) es i → Upto before (Response q phase ∷ es) i
-  at_response before es q phase zero rest = past before es (Response q phase) zero (ap (λ (x : Counts). x.delta) (sent-response s before q phase)) rest
-  at_response before es q phase (suc i) rest = past before es (Response q phase) (suc i) (ap (λ (x : Counts). x.delta) (sent-response s before q phase)) rest
+  at_response : (before es : List TrackerEvent) (q : ServerId) (phase : PhaseType) (cost i : ℕ) → Upto (before ++ Response q phase cost ∷ []) es i → Upto before (Response q phase cost ∷ es) i
+  at_response before es q phase cost zero rest = past before es (Response q phase cost) zero (ap (λ (x : Counts). x.delta) (sent-response s before q phase cost)) rest
+  at_response before es q phase cost (suc i) rest = past before es (Response q phase cost) (suc i) (ap (λ (x : Counts). x.delta) (sent-response s before q phase cost)) rest
 
   at_skip : (before es : List TrackerEvent) (q : ServerId) (i : ℕ) → Upto (before ++ Skip q ∷ []) es i → Upto before (Skip q ∷ es) i
   at_skip before es q zero rest = past before es (Skip q) zero (ap (λ (x : Counts). x.delta) (sent-skip s before q)) rest
@@ -93,10 +93,10 @@ module _ (s : ServerId) where
       let parts = sum_by-cons (λ x. cond (is_skip_of s x) 1 0) (Skip q) es in
       let more = sum_by_push (λ x. cond (is_skip_of s x) 1 0) before (Skip q) in
       at_skip before es q j (completed_from es (before ++ Skip q ∷ []) j (rw joined tracked) (omega (arith, none, unskipped, parts, more)) (omega (arith, unskipped, parts)) within)
-  completed_from (Response q phase ∷ es) before j tracked none unskipped within =
-      let joined : (before ++ Response q phase ∷ []) ++ es ≡ before ++ Response q phase ∷ es = append_assoc before (Response q phase ∷ []) es in
-      let rest = sum_by-cons (λ x. cond (is_skip_of s x) 1 0) (Response q phase) es in
-      at_response before es q phase j (completed_from es (before ++ Response q phase ∷ []) j (rw joined tracked) (skips-response s before q phase ∙ none) (omega (arith, unskipped, rest)) within)
+  completed_from (Response q phase cost ∷ es) before j tracked none unskipped within =
+      let joined : (before ++ Response q phase cost ∷ []) ++ es ≡ before ++ Response q phase cost ∷ es = append_assoc before (Response q phase cost ∷ []) es in
+      let rest = sum_by-cons (λ x. cond (is_skip_of s x) 1 0) (Response q phase cost) es in
+      at_response before es q phase cost j (completed_from es (before ++ Response q phase cost ∷ []) j (rw joined tracked) (skips-response s before q phase cost ∙ none) (omega (arith, unskipped, rest)) within)
   completed_from (Stamp q params ∷ es) before j tracked none unskipped within =
       let joined : (before ++ Stamp q params ∷ []) ++ es ≡ before ++ Stamp q params ∷ es = append_assoc before (Stamp q params ∷ []) es in
       let rest = sum_by-cons (λ x. cond (is_skip_of s x) 1 0) (Stamp q params) es in
@@ -146,7 +146,7 @@ module _ {T : Type 0} (id : ClientId) where
   one_arrival (Add client token params at) (Tagged tags) own = rw own refl
   one_arrival (Add client token params at) Registered own = absurd own
   one_arrival (Add client token params at) Updated own = absurd own
-  one_arrival (Add client token params at) (Granted granted its phase beyond) own = absurd own
+  one_arrival (Add client token params at) (Granted granted its phase beyond cost) own = absurd own
   one_arrival (Add client token params at) (Later due) own = absurd own
   one_arrival (Add client token params at) Nothing own = absurd own
   one_arrival (Add client token params at) (Removed count) own = absurd own
@@ -156,6 +156,7 @@ module _ {T : Type 0} (id : ClientId) where
   one_arrival (Update client info at) reply own = absurd own
   one_arrival (Pull at) reply own = absurd own
   one_arrival (Remove client) reply own = absurd own
+  one_arrival (Cancel client token counting) reply own = absurd own
   one_arrival (Clean at) reply own = absurd own
 
   -- an accepted add is an arrival, and those up to it are among all
@@ -172,29 +173,29 @@ module _ {T : Type 0} (id : ClientId) where
       )
 
 -- the arrivals follow the stamps, and more are in flight
-pub completed_between : {T : Type 0} (id : ClientId) (s : ServerId) (phase : PhaseType) (history : List (Event T)) (span : Span id phase history) (list : List TrackerEvent) (flight : List Params)
-    → IsTracked All list → skips s list ≡ 0 → params_of (arrivals id history) ++ flight ≡ stamps_to s list → IsOf span.token span.k (arrivals id history)
+pub completed_between : {T : Type 0} (Is : ℕ → List (Event T) → Type 0) (id : ClientId) (s : ServerId) (phase : PhaseType) (history : List (Event T)) (span : SpanBy Is id phase history) (list : List TrackerEvent) (flight : List Params)
+    → IsTracked All list → skips s list ≡ 0 → params_of (arrivals id history) ++ flight ≡ stamps_to s list → 0 < span.k → IsOf span.token span.cost span.k (arrivals id history)
     → completed_at s span.k list - completed_at s span.i list ≡ sum_of (λ p. p.delta) span.i span.k (arrivals id history)
-completed_between id s phase history span list flight tracked unskipped follows granted =
+completed_between Is id s phase history span list flight tracked unskipped follows some_k granted =
     let came = arrivals id history in
     let params = params_of came in
-    let left = departures id (take span.granted history) in
+    let left = span.k - 1 in
     let before = length (arrivals id (take (suc span.arrived) history)) - 1 in
     let long : length params ≡ length came = length-map came (λ (a : Arrival). a.params) in
     let sent : length (stamps_to s list) ≡ length params + length flight = ap length (sym follows) ∙ length-append params flight in
     let some = some_arrival id history span.arrived span.add span.add_is span.arrives in
     let i_is : span.i ≡ suc before = omega (arith, span.i_is, some.0) in
-    let number : span.k - 1 ≡ left = omega (arith, span.k_is) in
-    let here : left < length came = slice_get_within came left granted.arrival (subst (λ n. slice_get came n ≡ Some granted.arrival) number granted.here) in
+    let k_is : span.k ≡ suc left = omega (arith, some_k) in
+    let here : left < length came = slice_get_within came left granted.arrival granted.here in
     let up_to : (j : ℕ) → j < length came → completed_at s (suc j) list ≡ sum_by (λ (a : Arrival). a.params.delta) (take (suc j) came) = (λ j within.
     completed_is s list j tracked unskipped (omega (arith, within, long, sent))
     ∙ ap (λ ps. deltas (take (suc j) ps)) (sym follows)
     ∙ ap deltas (take-append-le (suc j) params flight (omega (arith, within, long)))
     ∙ sum_of_params came (suc j)) in
-    ap (λ n. completed_at s n list - completed_at s span.i list) span.k_is
+    ap (λ n. completed_at s n list - completed_at s span.i list) k_is
     ∙ ap (λ n. completed_at s (suc left) list - completed_at s n list) i_is
     ∙ ap (λ n. n - completed_at s (suc before) list) (up_to left here)
     ∙ ap (λ n. sum_by (λ (a : Arrival). a.params.delta) (take (suc left) came) - n) (up_to before (omega (arith, i_is, span.i_is, some.1)))
     ∙ sum_between (λ (a : Arrival). a.params.delta) came (suc before) (suc left)
     ∙ ap (λ n. sum_of (λ p. p.delta) n (suc left) came) (sym i_is)
-    ∙ ap (λ n. sum_of (λ p. p.delta) span.i n came) (sym span.k_is)
+    ∙ ap (λ n. sum_of (λ p. p.delta) span.i n came) (sym k_is)

@@ -15,7 +15,7 @@ use Rattle.dmc_tag.specs.declared.event.Event.{Event}
 use Rattle.dmc_tag.specs.declared.reply.Reply.{Reply}
 use Rattle.dmc_tag.specs.declared.reply.Reply.TheVariants.{Granted}
 use Rattle.dmc_core.specs.declared.event.CoreEvent.{CoreEvent}
-use Rattle.dmc_core.specs.declared.event.CoreEvent.TheVariants.{Stamp, Arrive, Pull, Respond, Update, Remove, Clean}
+use Rattle.dmc_core.specs.declared.event.CoreEvent.TheVariants.{Stamp, Arrive, Pull, Respond, Update, Remove, Cancel, Clean}
 use Rattle.dmc_core.specs.declared.event.CoreReply.{CoreReply}
 use Rattle.dmc_core.specs.declared.event.CoreReply.TheVariants.{Served}
 use Rattle.dmc_core.specs.declared.event.CoreFault.{CoreFault}
@@ -47,7 +47,7 @@ nothing_handed false answer = refl
 
 -- a pull leaves the servers to its queue
 pub pull_leaves_servers : {T : Type 0} (s : ServerId) (reply : Reply T) (run : Run T) → (after_pull s reply run).servers ≡ run.servers
-pull_leaves_servers s (Granted client token phase beyond) run = refl
+pull_leaves_servers s (Granted client token phase beyond cost) run = refl
 pull_leaves_servers s reply run = refl
 
 abbrev pub commands_of : {T : Type 0} → List (Event T) → List Command
@@ -90,8 +90,8 @@ module _ {T : Type 0} (ops : Tagging T) where
   -- one event
   pub accepted : (s : ServerId) (u : State T) (run : Run T) → slice_get run.servers s.0 ≡ Some u → (e : CoreEvent) (x : Run T × CoreReply T) → Gives ops run e x
       → Recorded s u (recorded_events (is_server s (server_named e)) (queue_command run e) (Ok x.1)) x.0
-  accepted s u run here (Stamp id server token) x g = quiet s u run here _ x.0 (nothing_handed (is_server s server) (Ok x.1)) (ap (λ (y : Run T × CoreReply T). y.0.servers) g.is)
-  accepted s u run here (Respond id server phase) x g = quiet s u run here _ x.0 (nothing_handed (is_server s server) (Ok x.1)) (ap (λ (y : Run T × CoreReply T). y.0.servers) g.is)
+  accepted s u run here (Stamp id server token cost) x g = quiet s u run here _ x.0 (nothing_handed (is_server s server) (Ok x.1)) (ap (λ (y : Run T × CoreReply T). y.0.servers) g.is)
+  accepted s u run here (Respond id server phase cost) x g = quiet s u run here _ x.0 (nothing_handed (is_server s server) (Ok x.1)) (ap (λ (y : Run T × CoreReply T). y.0.servers) g.is)
   accepted s u run here (Arrive id server at) x g =
       let oldest_is : oldest run id server ≡ Some g.message = ap (option_and_then (λ c. slice_get (pair_at server c.pairs).flight 0)) g.found ∙ g.first in
       rw g.is (served s u run here server (commands.Add id g.message.token g.message.params at) g.state (queue_command run (Arrive id server at)) _ _ g.state_is
@@ -99,6 +99,7 @@ module _ {T : Type 0} (ops : Tagging T) where
   accepted s u run here (Pull server at) x g = rw g.is (served s u run here server (commands.Pull at) g.state (Some (commands.Pull at)) _ _ g.state_is refl refl (pull_leaves_servers server _ _))
   accepted s u run here (Update server id info at) x g = rw g.is (served s u run here server (commands.Update id info at) g.state (Some (commands.Update id info at)) _ _ g.state_is refl refl refl)
   accepted s u run here (Remove server id) x g = rw g.is (served s u run here server (commands.Remove id) g.state (Some (commands.Remove id)) _ _ g.state_is refl refl refl)
+  accepted s u run here (Cancel server id token) x g = rw g.is (served s u run here server (commands.Cancel id token run.counting) g.state (Some (commands.Cancel id token run.counting)) _ _ g.state_is refl refl refl)
   accepted s u run here (Clean server at) x g = rw g.is (served s u run here server (commands.Clean at) g.state (Some (commands.Clean at)) _ _ g.state_is refl refl refl)
 
   told : (s : ServerId) (u : State T) (run : Run T) (e : CoreEvent) → slice_get run.servers s.0 ≡ Some u

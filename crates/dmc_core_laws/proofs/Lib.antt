@@ -3,5 +3,7 @@ pub mod Histories
 pub mod Clients
 pub mod Stamped
 pub mod Completions
+pub mod Numbers
+pub mod InForm
 pub mod Bounds
 pub mod Steps

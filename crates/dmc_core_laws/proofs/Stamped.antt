@@ -23,7 +23,7 @@ use Rattle.dmc_tracker.specs.TrackerList.{demanded, skips, IsTracked}
 use Rattle.dmc_tracker.proofs.ForCallers.{IsTracked-nil}
 use Rattle.dmc_core.specs.declared.event.Message.{Message}
 use Rattle.dmc_core.specs.declared.event.CoreEvent.{CoreEvent}
-use Rattle.dmc_core.specs.declared.event.CoreEvent.TheVariants.{Stamp, Arrive, Pull, Respond, Update, Remove, Clean}
+use Rattle.dmc_core.specs.declared.event.CoreEvent.TheVariants.{Stamp, Arrive, Pull, Respond, Update, Remove, Cancel, Clean}
 use Rattle.dmc_core.specs.declared.event.CoreReply.{CoreReply}
 use Rattle.dmc_core.specs.declared.event.CoreReply.TheVariants.{Stamped, Served, Counted}
 use Rattle.dmc_core.specs.Run.{Pair, Client, Run, no_pair, pair_at, change_first, with_server}
@@ -100,9 +100,9 @@ module _ {T : Type 0} (ops : Tagging T) (counting : Counting) (id : ClientId) (s
   no_other client m at reply e = refl
 
   pulled_clients : (q : ServerId) (reply : Reply T) (arrived : List Params) (run next : Run T) (servers : List (State T)) (told : List (Event T)) → AreFollowed arrived run → next ≡ after_pull q reply (record run { servers = servers }) → arrivals id told ≡ [] → AreFollowed (more arrived told) next
-  pulled_clients q (replies.Granted client token phase beyond) arrived run next servers told is next_is none =
-      changed arrived run next told client (after_grant q phase) is (ap (λ (r : Run T). r.counting) next_is) (ap (λ (r : Run T). r.clients) next_is) (λ x h. h)
-      (λ same c found follows. subst (λ ps. IsFollowed counting s ps (after_grant q phase c)) (sym (nothing_more arrived told none)) (grant_follows counting s arrived c follows q phase)) (λ e. none)
+  pulled_clients q (replies.Granted client token phase beyond cost) arrived run next servers told is next_is none =
+      changed arrived run next told client (after_grant q phase cost) is (ap (λ (r : Run T). r.counting) next_is) (ap (λ (r : Run T). r.clients) next_is) (λ x h. h)
+      (λ same c found follows. subst (λ ps. IsFollowed counting s ps (after_grant q phase cost c)) (sym (nothing_more arrived told none)) (grant_follows counting s arrived c follows q phase cost)) (λ e. none)
   pulled_clients q reply arrived run next servers told is next_is none = untouched arrived run next told is (ap (λ (r : Run T). r.counting) next_is) (ap (λ (r : Run T). r.clients) next_is) none
 
   -- the one that was found for an id that is the client's
@@ -113,25 +113,25 @@ module _ {T : Type 0} (ops : Tagging T) (counting : Counting) (id : ClientId) (s
   told_by run e answer = recorded_events (is_server s (server_named e)) (queue_command run e) answer
 
   accepted : (arrived : List Params) (run : Run T) (e : CoreEvent) (x : Run T × CoreReply T) → AreFollowed arrived run → Gives ops run e x → AreFollowed (more arrived (told_by run e (Ok x.1))) x.0
-  accepted arrived run (Stamp client q token) x is g =
-      let m : Message = record { token = token; params = demanded run.counting q g.client.list } in
-      let told = told_by run (Stamp client q token) (Ok x.1) in
+  accepted arrived run (Stamp client q token cost) x is g =
+      let m : Message = record { token = token; params = demanded run.counting q cost g.client.list } in
+      let told = told_by run (Stamp client q token cost) (Ok x.1) in
       let none = ap (arrivals id) (nothing_handed (is_server s q) (Ok x.1)) in
       changed arrived run x.0 told client (λ old. after_stamp q m g.client) is (ap (λ (y : Run T × CoreReply T). y.0.counting) g.is) (ap (λ (y : Run T × CoreReply T). y.0.clients) g.is)
       (λ y h. found_passes (λ (z : Client). is_client client z.id) run.clients g.client g.found)
       (λ same c found follows.
       let one = the_same run client g.client c same g.found found in
-      let due : m.params ≡ demanded counting q g.client.list = ap (λ k. demanded k q g.client.list) is.form in
-      subst (λ ps. IsFollowed counting s ps (after_stamp q m g.client)) (sym (nothing_more arrived told none)) (stamp_follows counting s arrived g.client (subst (IsFollowed counting s arrived) (sym one) follows) q m due))
+      let due : m.params ≡ demanded counting q cost g.client.list = ap (λ k. demanded k q cost g.client.list) is.form in
+      subst (λ ps. IsFollowed counting s ps (after_stamp q m g.client)) (sym (nothing_more arrived told none)) (stamp_follows counting s arrived g.client (subst (IsFollowed counting s arrived) (sym one) follows) q m cost due))
       (λ e. none)
-  accepted arrived run (Respond client q phase) x is g =
-      let told = told_by run (Respond client q phase) (Ok x.1) in
+  accepted arrived run (Respond client q phase cost) x is g =
+      let told = told_by run (Respond client q phase cost) (Ok x.1) in
       let none = ap (arrivals id) (nothing_handed (is_server s q) (Ok x.1)) in
-      changed arrived run x.0 told client (λ old. after_response q phase g.client) is (ap (λ (y : Run T × CoreReply T). y.0.counting) g.is) (ap (λ (y : Run T × CoreReply T). y.0.clients) g.is)
+      changed arrived run x.0 told client (λ old. after_response q phase cost g.client) is (ap (λ (y : Run T × CoreReply T). y.0.counting) g.is) (ap (λ (y : Run T × CoreReply T). y.0.clients) g.is)
       (λ y h. found_passes (λ (z : Client). is_client client z.id) run.clients g.client g.found)
       (λ same c found follows.
       let one = the_same run client g.client c same g.found found in
-      subst (λ ps. IsFollowed counting s ps (after_response q phase g.client)) (sym (nothing_more arrived told none)) (response_follows counting s arrived g.client (subst (IsFollowed counting s arrived) (sym one) follows) q phase))
+      subst (λ ps. IsFollowed counting s ps (after_response q phase cost g.client)) (sym (nothing_more arrived told none)) (response_follows counting s arrived g.client (subst (IsFollowed counting s arrived) (sym one) follows) q phase cost))
       (λ e. none)
   accepted arrived run (Arrive client q at) x is g =
       let m = g.message in
@@ -153,6 +153,7 @@ module _ {T : Type 0} (ops : Tagging T) (counting : Counting) (id : ClientId) (s
       (no_arrival (is_server s q) (commands.Pull at) (Ok x.1) (λ r. refl))
   accepted arrived run (Update q client info at) x is g = untouched arrived run x.0 (told_by run (Update q client info at) (Ok x.1)) is (ap (λ (y : Run T × CoreReply T). y.0.counting) g.is) (ap (λ (y : Run T × CoreReply T). y.0.clients) g.is) (no_arrival (is_server s q) (commands.Update client info at) (Ok x.1) (λ r. refl))
   accepted arrived run (Remove q client) x is g = untouched arrived run x.0 (told_by run (Remove q client) (Ok x.1)) is (ap (λ (y : Run T × CoreReply T). y.0.counting) g.is) (ap (λ (y : Run T × CoreReply T). y.0.clients) g.is) (no_arrival (is_server s q) (commands.Remove client) (Ok x.1) (λ r. refl))
+  accepted arrived run (Cancel q client token) x is g = untouched arrived run x.0 (told_by run (Cancel q client token) (Ok x.1)) is (ap (λ (y : Run T × CoreReply T). y.0.counting) g.is) (ap (λ (y : Run T × CoreReply T). y.0.clients) g.is) (no_arrival (is_server s q) (commands.Cancel client token run.counting) (Ok x.1) (λ r. refl))
   accepted arrived run (Clean q at) x is g = untouched arrived run x.0 (told_by run (Clean q at) (Ok x.1)) is (ap (λ (y : Run T × CoreReply T). y.0.counting) g.is) (ap (λ (y : Run T × CoreReply T). y.0.clients) g.is) (no_arrival (is_server s q) (commands.Clean at) (Ok x.1) (λ r. refl))
 
   event_follows : (arrived : List Params) (run : Run T) (e : CoreEvent) → AreFollowed arrived run → AreFollowed (more arrived (told_by run e ((cluster_step ops run e).1))) ((cluster_step ops run e).0)

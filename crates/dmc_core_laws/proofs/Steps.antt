@@ -4,7 +4,7 @@ use Rattle.std.specs.Cmp.{IsTotalOrder}
 use Rattle.dmc_types.specs.declared.ids.ServerId.{ServerId}
 use Rattle.dmc_tag.specs.Tag.{Tagging, Fraction, IsExact}
 use Rattle.dmc_tag.specs.State.{State, opening}
-use Rattle.dmc_history_laws.specs.Bounds.{KeepsToReservations}
+use Rattle.dmc_history_laws.specs.Bounds.{KeepsToReservations, KeepsToReservationsWithCancels}
 use Rattle.dmc_scene.specs.SceneValue.{SceneValue}
 use Rattle.dmc_core.specs.declared.event.CoreEvent.{CoreEvent}
 use Rattle.dmc_core.specs.declared.event.CoreFault.TheVariants.{Memory}
@@ -13,9 +13,10 @@ use Rattle.dmc_core.specs.Events.{answers_of, cluster_step}
 use Rattle.dmc_core.specs.Core.{CoreValue, RepresentsRun, Follows}
 use Rattle.dmc_core.specs.Opening.{named_rates, opening_of}
 use Rattle.dmc_core_laws.specs.Histories.{Answer, history, history_from, is_server, queue_command, recorded_events, registrations, server_named}
-use Rattle.dmc_core_laws.specs.Bounds.{KeepsToLimitAt, run_of, tracker_list}
-use Rattle.dmc_core_laws.specs.Steps.{Steps, wants_memory, heard, IsRunOf, StepsAreRuns, replied_events, replied_from, replied_history, LimitOfCores, ReservationOfCores}
-use Rattle.dmc_core_laws.proofs.Bounds.{limit_over_runs, reservation_over_runs}
+use Rattle.dmc_core_laws.specs.Bounds.{GivesNothingBack, KeepsToLimitAt, KeepsToLimitWithCancelsAt, run_of, tracker_list}
+use Rattle.dmc_core_laws.specs.Steps.{Steps, wants_memory, heard, IsRunOf, StepsAreRuns, replied_events, replied_from, replied_history, LimitOfCores, LimitOfCoresWithCancels, NothingGivenBackInCores, ReservationOfCores, ReservationOfCoresWithCancels}
+use Rattle.dmc_core_laws.proofs.Bounds.{limit_over_runs, limit_over_runs_with_cancels, reservation_over_runs, reservation_over_runs_with_cancels}
+use Rattle.dmc_core_laws.proofs.InForm.{nothing_given_back}
 
 module _ {T Q : Type 0} (ops : Tagging T) (state : Q → State T) where
   -- nothing happened, or what the rules say
@@ -59,6 +60,10 @@ module _ {T Q : Type 0} (ops : Tagging T) (state : Q → State T) where
   history_is scene opened new steps s opens h =
       ap (λ es. registrations ops (opening ops scene.config) (map named_rates scene.clients) ++ es) (replied_is s (opening_of ops scene) (heard steps) (stay (opening_of ops scene) opened new steps opens h).answers)
 
+  pub nothing_given_back_in_cores : NothingGivenBackInCores ops state
+  nothing_given_back_in_cores = λ scene opened new steps s opens h.
+      subst (GivesNothingBack scene.counting) (sym (history_is scene opened new steps s opens h)) (nothing_given_back ops scene (replied_events steps) s)
+
 -- ---- the bounds
 
 module _ {T Q : Type 0} (ops : Tagging T) (state : Q → State T) (fraction : T → Fraction) (is_value : Fraction → Type 0) (exact : IsExact ops fraction is_value) (order : IsTotalOrder ops.compare) where
@@ -71,3 +76,13 @@ module _ {T Q : Type 0} (ops : Tagging T) (state : Q → State T) (fraction : T 
   reservation_of_cores = λ scene opened new steps s some within opens h.
       subst (KeepsToReservations ops scene.config) (sym (history_is ops state scene opened new steps s opens h))
       (reservation_over_runs ops fraction is_value exact order scene (replied_events steps) s some within)
+
+  pub limit_of_cores_with_cancels : LimitOfCoresWithCancels ops state
+  limit_of_cores_with_cancels = λ scene opened new steps id s some within opens h.
+      subst (KeepsToLimitWithCancelsAt ops scene.config scene.counting id s (tracker_list (run_of ops scene (replied_events steps)) id)) (sym (history_is ops state scene opened new steps s opens h))
+      (limit_over_runs_with_cancels ops fraction is_value exact order scene (replied_events steps) id s some within)
+
+  pub reservation_of_cores_with_cancels : ReservationOfCoresWithCancels ops state
+  reservation_of_cores_with_cancels = λ scene opened new steps s some within opens h.
+      subst (KeepsToReservationsWithCancels ops scene.config) (sym (history_is ops state scene opened new steps s opens h))
+      (reservation_over_runs_with_cancels ops fraction is_value exact order scene (replied_events steps) s some within)

@@ -17,7 +17,7 @@ use Rattle.dmc_tag.specs.declared.reply.Reply.{Reply}
 use Rattle.dmc_scene.specs.SceneValue.{SceneValue}
 use Rattle.dmc_core.specs.declared.event.Message.{Message}
 use Rattle.dmc_core.specs.declared.event.CoreEvent.{CoreEvent}
-use Rattle.dmc_core.specs.declared.event.CoreEvent.TheVariants.{Stamp, Arrive, Pull, Respond, Update, Remove, Clean}
+use Rattle.dmc_core.specs.declared.event.CoreEvent.TheVariants.{Stamp, Arrive, Pull, Respond, Update, Remove, Cancel, Clean}
 use Rattle.dmc_core.specs.declared.event.CoreReply.{CoreReply}
 use Rattle.dmc_core.specs.declared.event.CoreReply.TheVariants.{Served}
 use Rattle.dmc_core.specs.declared.event.CoreFault.{CoreFault}
@@ -39,22 +39,24 @@ oldest run id s = option_and_then (λ c. slice_get (pair_at s c.pairs).flight 0)
 
 -- the server that an event names
 abbrev pub server_named : CoreEvent → ServerId
-server_named (Stamp client server token) = server
+server_named (Stamp client server token cost) = server
 server_named (Arrive client server at) = server
 server_named (Pull server at) = server
-server_named (Respond client server phase) = server
+server_named (Respond client server phase cost) = server
 server_named (Update server client info at) = server
 server_named (Remove server client) = server
+server_named (Cancel server client token) = server
 server_named (Clean server at) = server
 
 -- the command that an event gives to that server's queue
 abbrev pub queue_command : {T : Type 0} → Run T → CoreEvent → Option Command
-queue_command run (Stamp client server token) = None
+queue_command run (Stamp client server token cost) = None
 queue_command run (Arrive client server at) = option_map (λ m. commands.Add client m.token m.params at) (oldest run client server)
 queue_command run (Pull server at) = Some (commands.Pull at)
-queue_command run (Respond client server phase) = None
+queue_command run (Respond client server phase cost) = None
 queue_command run (Update server client info at) = Some (commands.Update client info at)
 queue_command run (Remove server client) = Some (commands.Remove client)
+queue_command run (Cancel server client token) = Some (commands.Cancel client token run.counting)
 queue_command run (Clean server at) = Some (commands.Clean at)
 
 abbrev pub is_server : ServerId → ServerId → Bool

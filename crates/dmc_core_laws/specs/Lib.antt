@@ -6,6 +6,5 @@ pub mod Histories
 pub mod Bounds
 -- The events that a cluster core was called with, one after the other, and the replies of its step.
 pub mod Steps
--- Small runs on which the bounds are computed: one server, client 1 of weight 1, 1,000 ticks a second, whole ticks as tags, all
--- completions counted.
+-- Small runs on which the bounds are computed: one server, client 1 of weight 1, 1,000 ticks a second, whole ticks as tags.
 pub mod Examples

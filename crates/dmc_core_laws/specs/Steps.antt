@@ -5,7 +5,7 @@ use Rattle.dmc_types.specs.declared.ids.ServerId.{ServerId}
 use Rattle.dmc_tag.specs.Tag.{Tagging}
 use Rattle.dmc_tag.specs.State.{State, opening}
 use Rattle.dmc_tag.specs.declared.event.Event.{Event}
-use Rattle.dmc_history_laws.specs.Bounds.{KeepsToReservations}
+use Rattle.dmc_history_laws.specs.Bounds.{KeepsToReservations, KeepsToReservationsWithCancels}
 use Rattle.dmc_scene.specs.SceneValue.{SceneValue}
 use Rattle.dmc_core.specs.declared.event.CoreEvent.{CoreEvent}
 use Rattle.dmc_core.specs.declared.event.CoreFault.TheVariants.{Memory}
@@ -14,7 +14,7 @@ use Rattle.dmc_core.specs.Events.{answers_of, cluster_step, run_after}
 use Rattle.dmc_core.specs.Core.{CoreValue, RepresentsRun, Follows}
 use Rattle.dmc_core.specs.Opening.{named_rates, opening_of}
 use Rattle.dmc_core_laws.specs.Histories.{Answer, is_server, queue_command, recorded_events, registrations, server_named}
-use Rattle.dmc_core_laws.specs.Bounds.{KeepsToLimitAt, run_of, tracker_list}
+use Rattle.dmc_core_laws.specs.Bounds.{GivesNothingBack, KeepsToLimitAt, KeepsToLimitWithCancelsAt, run_of, tracker_list}
 
 -- each reply is as the contract of step says, from the core after the event before
 abbrev pub Steps : {T Q : Type 0} → Tagging T → (Q → State T) → CoreValue Q → List (CoreEvent × Answer T) → CoreValue Q → Type 0
@@ -55,7 +55,7 @@ replied_from ops s run (x ∷ xs) = recorded_events (is_server s (server_named x
 abbrev pub replied_history : {T : Type 0} → Tagging T → SceneValue → ServerId → List (CoreEvent × Answer T) → List (Event T)
 replied_history ops scene s steps = registrations ops (opening ops scene.config) (map named_rates scene.clients) ++ replied_from ops s (opening_of ops scene) (heard steps)
 
--- of each core that opened for a scene and was called with these events
+-- of each core that opened for a scene and was called with these events; of a client of which no request was taken back
 abbrev pub LimitOfCores : {T Q : Type 0} → Tagging T → (Q → State T) → Type 0
 LimitOfCores {T} {Q} ops state =
     (scene : SceneValue) (opened new : CoreValue Q) (steps : List (CoreEvent × Answer T)) (id : ClientId) (s : ServerId) → 0 < scene.config.hz → s.0 < scene.servers
@@ -67,3 +67,22 @@ ReservationOfCores {T} {Q} ops state =
     (scene : SceneValue) (opened new : CoreValue Q) (steps : List (CoreEvent × Answer T)) (s : ServerId) → 0 < scene.config.hz → s.0 < scene.servers
     → RepresentsRun state opened (opening_of ops scene) → Steps ops state opened steps new
     → KeepsToReservations ops scene.config (replied_history ops scene s steps)
+
+-- whatever was taken back
+abbrev pub LimitOfCoresWithCancels : {T Q : Type 0} → Tagging T → (Q → State T) → Type 0
+LimitOfCoresWithCancels {T} {Q} ops state =
+    (scene : SceneValue) (opened new : CoreValue Q) (steps : List (CoreEvent × Answer T)) (id : ClientId) (s : ServerId) → 0 < scene.config.hz → s.0 < scene.servers
+    → RepresentsRun state opened (opening_of ops scene) → Steps ops state opened steps new
+    → KeepsToLimitWithCancelsAt ops scene.config scene.counting id s (tracker_list (run_of ops scene (replied_events steps)) id) (replied_history ops scene s steps)
+
+abbrev pub ReservationOfCoresWithCancels : {T Q : Type 0} → Tagging T → (Q → State T) → Type 0
+ReservationOfCoresWithCancels {T} {Q} ops state =
+    (scene : SceneValue) (opened new : CoreValue Q) (steps : List (CoreEvent × Answer T)) (s : ServerId) → 0 < scene.config.hz → s.0 < scene.servers
+    → RepresentsRun state opened (opening_of ops scene) → Steps ops state opened steps new
+    → KeepsToReservationsWithCancels ops scene.config (replied_history ops scene s steps)
+
+abbrev pub NothingGivenBackInCores : {T Q : Type 0} → Tagging T → (Q → State T) → Type 0
+NothingGivenBackInCores {T} {Q} ops state =
+    (scene : SceneValue) (opened new : CoreValue Q) (steps : List (CoreEvent × Answer T)) (s : ServerId)
+    → RepresentsRun state opened (opening_of ops scene) → Steps ops state opened steps new
+    → GivesNothingBack scene.counting (replied_history ops scene s steps)

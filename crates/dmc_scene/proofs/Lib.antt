@@ -1,2 +1,3 @@
+pub mod CostLemmas
 pub mod TableLemmas
 pub mod TextLemmas

@@ -30,6 +30,7 @@ name_of key.Weight = codes "weight"
 name_of key.Limit = codes "limit"
 name_of key.Requests = codes "requests"
 name_of key.Window = codes "window"
+name_of key.Costs = codes "costs"
 
 -- what a key's value represents: by its kind, and then by its limits
 abbrev pub meaning : {A B : Type 0} → (Data → Option A) → (A → Option B) → Key → Data → Result B SceneFault

@@ -1,7 +1,7 @@
 -- The scene of a table, or the first fault, in the order of the keys.
 use Rattle.std.specs.Prelude.{ℕ, ◌^◌, ◌-◌, ◌==◌, ◌&&◌, nat_le, not, ℤ, Bool, true, is_some, if◌then◌else◌, List, [], ◌∷◌, ◌++◌, length, Option, Some, None, Result, Ok, codes}
 use Rattle.std.specs.List.{list_any}
-use Rattle.std.specs.Option.{ok_or, option_and_then, option_to_list}
+use Rattle.std.specs.Option.{ok_or, option_and_then, option_map, option_to_list}
 use Rattle.std.specs.Str.{bytes_eq, is_utf8}
 use Rattle.dmc_types.specs.Limits.{max_hz, max_moment, max_step, max_window, max_client_requests, limit_of_pulls, max_scene_bytes, max_scene_clients, max_server_workers, max_servers}
 use Rattle.dmc_types.specs.declared.config.AtLimit.{AtLimit}
@@ -20,7 +20,7 @@ use Rattle.dmc_scene.specs.declared.fault.SceneFault.{SceneFault}
 use Rattle.dmc_scene.specs.declared.fault.SceneFault.TheVariants.{Text}
 use Rattle.dmc_scene.specs.declared.scene.Ages.{Ages}
 use Rattle.dmc_scene.specs.declared.scene.Sizes.{Sizes}
-use Rattle.dmc_scene.specs.SceneValue.{SceneValue, ClientValue, has_spacing}
+use Rattle.dmc_scene.specs.SceneValue.{SceneValue, ClientValue, has_spacing, max_costs, max_scene_cost}
 use Rattle.dmc_scene.specs.Keys.{required, optional, defaulted, number, passing}
 
 abbrev pub tags_named : List ℕ → Option TagKind
@@ -72,6 +72,24 @@ tables_alone ds = if are_tables ds then Some (tables_in ds) else None
 abbrev pub as_tables : Data → Option (List Members)
 as_tables held = option_and_then tables_alone (as_array held)
 
+-- what the items of a list are, if each is of the kind
+abbrev pub each_as : {A : Type 0} → (Data → Option A) → Items → Option (List A)
+each_as kind no_items = Some []
+each_as kind (item d ds) = option_and_then (λ x. option_map (λ xs. x ∷ xs) (each_as kind ds)) (kind d)
+
+-- a list of whole numbers
+abbrev pub as_integers : Data → Option (List ℤ)
+as_integers held = option_and_then (each_as as_integer) (as_array held)
+
+-- the numbers, if each is between the two bounds
+abbrev pub numbers : ℕ → ℕ → List ℤ → Option (List ℕ)
+numbers least greatest [] = Some []
+numbers least greatest (z ∷ zs) = option_and_then (λ n. option_map (λ ns. n ∷ ns) (numbers least greatest zs)) (number least greatest z)
+
+-- a client's costs: at least one of them, and at most as many as a list may have
+abbrev pub some_costs : List ℤ → Option (List ℕ)
+some_costs list = if nat_le 1 (length list) && nat_le (length list) max_costs then numbers 1 max_scene_cost list else None
+
 -- at least one of them, and at most as many as a scene may have
 abbrev pub some_clients : List Members → Option (List Members)
 some_clients tables = if nat_le 1 (length tables) && nat_le (length tables) max_scene_clients then Some tables else None
@@ -85,11 +103,13 @@ client_of tags hz before table = do
   limit ← optional as_integer (rate tags hz) key.Limit table
   requests ← required as_integer (number 0 max_client_requests) key.Requests table
   window ← required as_integer (number 1 max_window) key.Window table
+  costs ← optional as_integers some_costs key.Costs table
   Ok (record {
     id = record { 0 = id };
     info = record { reservation = reservation; weight = weight; limit = limit };
     requests = requests;
     window = window;
+    costs = costs;
   })
 
 -- the clients before, and the clients of the tables

@@ -1,5 +1,6 @@
 -- What contracts see of a scene, and the limits that each scene is within.
-use Rattle.std.specs.Prelude.{◌≢◌, ℕ, ◌%◌, ◌<◌, ◌≤◌, ◌^◌, ◌==◌, ◌&&◌, nat_le, Bool, IsTrue, IfSome, List, length, All, AllPairs}
+use Rattle.std.specs.Prelude.{◌≢◌, ℕ, ◌%◌, ◌<◌, ◌≤◌, ◌^◌, ◌==◌, ◌&&◌, nat_le, Bool, IsTrue, IfSome, List, length, All, AllPairs, Option, Some, None, get_or, is_some}
+use Rattle.std.specs.List.{list_any}
 use Rattle.dmc_types.specs.Limits.{max_hz, max_step, max_window, max_client_requests, limit_of_pulls, max_scene_clients, max_server_workers, max_servers}
 use Rattle.dmc_types.specs.Values.{Rates, Setting}
 use Rattle.dmc_types.specs.declared.ids.ClientId.{ClientId}
@@ -13,6 +14,30 @@ pub record ClientValue : Type 0 where
   pub info : Rates
   pub requests : ℕ
   pub window : ℕ
+  pub costs : Option (List ℕ)
+
+-- the most costs of a client's list, and the greatest of them
+abbrev pub max_costs : ℕ
+max_costs = 16
+
+abbrev pub max_scene_cost : ℕ
+max_scene_cost = 1024
+
+-- a client's list of costs
+pub record AreCosts (costs : List ℕ) : Type 0 where
+  pub some : 0 < length costs
+  pub limit : length costs ≤ max_costs
+  pub least : All (λ c. 0 < c) costs
+  pub greatest : All (λ c. c ≤ max_scene_cost) costs
+
+-- the cost of a client's request with this number, counted from 0: the costs of the list in turn; without a list each is 1
+abbrev pub cost_at : Option (List ℕ) → ℕ → ℕ
+cost_at None number = 1
+cost_at (Some costs) number = get_or costs (number % length costs) 1
+
+-- a client of these has costs
+abbrev pub has_costs : List ClientValue → Bool
+has_costs clients = list_any (λ c. is_some c.costs) clients
 
 pub record SceneValue : Type 0 where
   pub config : Setting

@@ -1,2 +1,4 @@
 -- Ids that are not taken.
 pub mod SceneValue
+-- A list of costs in an array, with zeros behind it.
+pub mod CostLists

@@ -1,18 +1,20 @@
 //! The clients of a scene.
-ghost use Rattle.std.specs.Prelude.{◌≡◌, ◌<◌, ◌≤◌, ◌==◌, IfOk, IfSome, false};
+ghost use Rattle.std.specs.Prelude.{◌≡◌, ◌<◌, ◌≤◌, ◌==◌, IfOk, IfSome, false, is_some};
 ghost use Rattle.std.specs.List.{list_any};
 ghost use Rattle.dmc_types.specs.Limits.{max_window, max_client_requests};
 ghost use Rattle.toml.specs.Data.{as_integer};
 ghost use Rattle.toml.specs.View.{view, table_view};
-ghost use Rattle.dmc_scene.specs.SceneValue.{has_spacing, HasSpacing, AreSpaced};
+ghost use Rattle.dmc_scene.specs.SceneValue.{has_spacing, HasSpacing, AreSpaced, cost_at, max_scene_cost};
 ghost use Rattle.dmc_scene.specs.internal.SceneValue.{IsFresh};
 ghost use Rattle.dmc_scene.specs.Keys.{meaning, required, optional};
 ghost use Rattle.dmc_scene.specs.Reading.{rate, id_beside, client_of};
 
+use crate::costs::{CostList, read_costs};
 use crate::fault::SceneFault;
 use crate::held::{integer, integer_of, number, required, value_at};
 use crate::key::Key;
 use dmc_types::config::TagKind;
+use dmc_types::cost::Cost;
 use dmc_types::ids::ClientId;
 use dmc_types::info::ClientInfo;
 use std::marker::Model;
@@ -24,14 +26,15 @@ const MAX_CLIENT_REQUESTS: u64 = 1_000_000;
 /// The greatest number of a client's requests that are outstanding at once.
 const MAX_WINDOW: u64 = 1024;
 
-/// A client of a scene: its id and rates, how many requests it makes (at most 1,000,000), and how many of them may be
-/// outstanding (1 to 1,024).
+/// A client of a scene: its id and rates, how many requests it makes (at most 1,000,000), how many of them may be outstanding
+/// (1 to 1,024), and what they cost.
 #[derive(Clone, Copy, Debug, PartialEq, Eq)]
 pub struct SceneClient {
     id: ClientId,
     info: ClientInfo,
     requests: u32,
     window: u32,
+    costs: Option<CostList>,
 }
 
 impl Model for SceneClient {
@@ -39,11 +42,11 @@ impl Model for SceneClient {
 
     ghost Value = { ClientValue };
 
-    ghost view = { λ c. record { id = c.id; info = c.info; requests = c.requests; window = c.window } };
+    ghost view = { λ c. record { id = c.id; info = c.info; requests = c.requests; window = c.window; costs = c.costs } };
 
     ghost invariant = { λ c. IsClient c.requests c.window };
 
-    ghost inverse = { λ c. record { id = c.id; info = c.info; requests = c.requests; window = c.window } };
+    ghost inverse = { λ c. record { id = c.id; info = c.info; requests = c.requests; window = c.window; costs = c.costs } };
 }
 
 impl SceneClient {
@@ -76,6 +79,24 @@ impl SceneClient {
         ensures limit { result ≤ max_window }
     {
         self.window
+    }
+
+    /// Whether its requests have costs of their own. If not, each costs 1.
+    pub fn has_costs(self) -> bool
+        ensures { result ≡ is_some self.costs }
+    {
+        self.costs.is_some()
+    }
+
+    /// The cost of its request with this number, counted from 0.
+    pub fn cost(self, number: u32) -> Cost
+        ensures value { result ≡ cost_at self.costs number }
+        ensures limit { result ≤ max_scene_cost }
+    {
+        match self.costs {
+            None => Cost::ONE,
+            Some(costs) => costs.at(number),
+        }
     }
 }
 
@@ -177,10 +198,12 @@ pub(crate) fn read_client(
     let limit = optional_rate(table, Key::Limit, tags, hz)?;
     let requests = integer(table, Key::Requests, 0, MAX_CLIENT_REQUESTS)? as u32;
     let window = integer(table, Key::Window, 1, MAX_WINDOW)? as u32;
+    let costs = read_costs(table)?;
     Ok(SceneClient {
         id: ClientId(id),
         info: ClientInfo::new(reservation, weight, limit).unwrap(),
         requests,
         window,
+        costs,
     })
 }

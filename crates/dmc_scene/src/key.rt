@@ -2,7 +2,7 @@
 ghost use Rattle.std.specs.Prelude.{◌≡◌};
 ghost use Rattle.dmc_scene.specs.Keys.{name_of};
 
-/// A key of a scene, in the order in which they are checked. The last six are keys of each client's table.
+/// A key of a scene, in the order in which they are checked. The last seven are keys of each client's table.
 #[derive(Clone, Copy, Debug, PartialEq, Eq)]
 pub enum Key {
     /// Ticks a second.
@@ -43,6 +43,8 @@ pub enum Key {
     Requests,
     /// The number of its requests that may be outstanding.
     Window,
+    /// The costs of its requests, in turn.
+    Costs,
 }
 
 impl Key {
@@ -70,6 +72,7 @@ impl Key {
             Key::Limit => "limit",
             Key::Requests => "requests",
             Key::Window => "window",
+            Key::Costs => "costs",
         }
     }
 }

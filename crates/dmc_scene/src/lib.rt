@@ -2,6 +2,7 @@
 #![tactic(auto)]
 
 pub mod client;
+pub mod costs;
 pub mod fault;
 mod held;
 pub mod key;

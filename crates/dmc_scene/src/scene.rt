@@ -9,7 +9,7 @@ ghost use Rattle.toml.specs.View.{view, items_view, table_view};
 ghost use Rattle.dmc_scene.specs.declared.fault.SceneFault.TheVariants.{Kind, Memory};
 ghost use Rattle.dmc_types.specs.Values.{IsSetting, threshold_of};
 ghost use Rattle.dmc_types.specs.declared.config.AtLimit.TheVariants as limits;
-ghost use Rattle.dmc_scene.specs.SceneValue.{AreApart, AreSizes, AreSpaced};
+ghost use Rattle.dmc_scene.specs.SceneValue.{AreApart, AreSizes, AreSpaced, has_costs};
 ghost use Rattle.dmc_scene.specs.Keys.{required};
 ghost use Rattle.dmc_scene.specs.Reading.{are_tables, tables_in, as_tables, some_clients, clients_of, ages_of, sizes_of, scene_of, scene_in};
 
@@ -145,6 +145,13 @@ impl Scene {
         ensures { result ≡ self.now.counting }
     {
         self.counting
+    }
+
+    /// Whether a client's requests have costs of their own.
+    pub fn has_costs(&self) -> bool
+        ensures { result ≡ has_costs self.now.clients }
+    {
+        self.clients.iter().any(|client| client.has_costs())
     }
 
     /// The clients, in the scene's order.

@@ -8,7 +8,7 @@ use Rattle.dmc_tracker.specs.Numbers.{new_numbers}
 use Rattle.dmc_scene.specs.SceneValue.{SceneValue, ClientValue}
 use Rattle.dmc_core.specs.Run.{max_completions, no_pair}
 use Rattle.dmc_core.specs.Events.{registration}
-use Rattle.dmc_core.specs.Core.{Held}
+use Rattle.dmc_core.specs.Core.{Held, no_room}
 use Rattle.dmc_core.specs.Opening.{named_rates}
 
 -- each server's plain state
@@ -21,4 +21,5 @@ opening_client counting servers c = record {
   id = c.id;
   tracker = new_numbers counting max_completions servers;
   pairs = replicate servers no_pair;
+  rooms = replicate servers no_room;
 }

@@ -9,6 +9,5 @@ use Rattle.dmc_core.specs.declared.event.CoreEvent.TheVariants as events
 -- the event has a server carry out this command
 abbrev pub IsServed : ServerId → Command → CoreEvent → Type 0
 IsServed server (commands.Update client info at) event = event ≡ events.Update server client info at
-IsServed server (commands.Remove client) event = event ≡ events.Remove server client
 IsServed server (commands.Clean at) event = event ≡ events.Clean server at
 IsServed server command event = ⊥

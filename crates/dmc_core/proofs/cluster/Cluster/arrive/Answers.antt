@@ -7,8 +7,9 @@ use Rattle.dmc_core.specs.Core.{Held, CoreValue}
 use Rattle.dmc_core.specs.Run.{pair_at, with_pair, with_flight}
 use Rattle.dmc_core.specs.declared.server.CoreServer.{CoreServer}
 use Rattle.dmc_core.proofs.Pairs.{seen_map, flight_keeps_grants}
-use Rattle.dmc_core.proofs.Kept.{client_kept, server_kept}
-use Rattle.dmc_core.proofs.Arrivals.{not_tagged, arrival_no_names, arrival_no_flight, arrival_memory, arrival_served, arrival_refused}
+use Rattle.dmc_core.proofs.Kept.{client_kept, server_kept, others_apart}
+use Rattle.dmc_core.proofs.Arrivals.{arrival_no_names, arrival_no_flight, arrival_memory, arrival_tagged, arrival_refused}
+use Rattle.dmc_core.proofs.Runs.{found_place}
 use Rattle.dmc_core.proofs.cluster.Cluster.arrive.Goals as goal
 use Rattle.dmc_core.proofs.cluster.Cluster.arrive.Goals.{in-Tagged, in_default-reply}
 use Rattle.dmc_lemmas.proofs.Options.{err_is}
@@ -94,15 +95,18 @@ returns g c =
     let steps : (q : g.row.Q.Denot) → slice_get (map queue servers) s.0 ≡ Some q → Steps g.T.Tag.ops (g.Q.Scheduler.state q) (g.Q.Scheduler.state c.add.new.self.queue) (commands.Add c.args.client c.in-Some.message.token c.in-Some.message.params c.args.at) (Some c.in_ok-reply.reply) = λ q at.
     let same : x.queue ≡ q = sym (seen_map queue servers s.0 q x (simp length-map at within) c.index_mut.ensures.value) ∙ get_or_from_slice_get (map queue servers) s.0 q q at in
     rw (← same) c.in_ok-reply.ensures.steps in
+    let position_is = found_place c.args.client s core i placed in
+    let apart = others_apart c.self.inside.ids hs servers c.self.invariant c.args.client i position_is in
+    let paired : (y : Held) → slice_get hs i ≡ Some y → s.0 < length y.pairs = rw (← c.self.view_is) at c.in_ok-place.ensures.paired in
     elim c.match-reply.branch [
       | in-Tagged w ↦ rw (w.self-is, ← c.self.view_is, map-set queue servers s.0 c.add.new.self)
-          (arrival_served g.T.Tag.ops g.Q.Scheduler.state core c.args.client s c.args.at i placed within c.in-Some.message oldest c.add.new.self.queue c.in_ok-reply.reply steps
-          (set hs i w.take_oldest.new.self)
+          (arrival_tagged g.T.Tag.ops g.Q.Scheduler.state core c.args.client s c.args.at i placed within c.in-Some.message oldest c.add.new.self.queue c.in_ok-reply.reply steps
+          w.in-Tagged.field-0 w.in-Tagged.is paired apart (set hs i w.take_oldest.new.self)
           (λ y at. let same : w.index_mut-in-Tagged.result.now ≡ y = w.index_mut-in-Tagged.ensures.value ∙ get_or_from_slice_get hs i y w.index_mut-in-Tagged.result.now at in
-          rw w.in-Tagged.is (ap (λ (z : Held). set hs i z) (w.take_oldest.ensures ∙ ap (λ (z : Held). record z { pairs = with_pair s (with_flight (drop 1 (pair_at s z.pairs).flight) (pair_at s z.pairs)) z.pairs }) same))))
+          ap (λ (z : Held). set hs i z) (w.take_oldest.ensures ∙ ap (λ (z : Held). record z { pairs = with_pair s (with_flight (drop 1 (pair_at s z.pairs).flight) (pair_at s z.pairs)) z.pairs }) same)))
       | in_default-reply w ↦ rw (w.self-is, ← c.self.view_is, map-set queue servers s.0 c.add.new.self)
           (arrival_refused g.T.Tag.ops g.Q.Scheduler.state core c.args.client s c.args.at i placed within c.in-Some.message oldest c.add.new.self.queue c.in_ok-reply.reply steps
-          (not_tagged c.in_ok-reply.reply w.in_default-reply.not-Tagged))
+          w.in_default-reply.not-Tagged)
     ]
 
 pub index-requires : goal.index-requires

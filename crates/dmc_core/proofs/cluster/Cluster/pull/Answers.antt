@@ -6,7 +6,8 @@ use Rattle.dmc_core.specs.internal.Parts.{full_counts}
 use Rattle.dmc_core.specs.declared.server.CoreServer.{CoreServer}
 use Rattle.dmc_core.proofs.Pairs.{seen_map}
 use Rattle.dmc_core.proofs.Kept.{known, server_kept}
-use Rattle.dmc_core.proofs.Pulls.{not_granted, pull_no_name, pull_full, pull_served}
+use Rattle.dmc_core.proofs.Pulls.{pull_no_name, pull_full, pull_granted, pull_not_granted}
+use Rattle.dmc_tag.proofs.ForCallers.{tag_order}
 use Rattle.dmc_core.proofs.cluster.Cluster.pull.Goals as goal
 use Rattle.dmc_core.proofs.cluster.Cluster.pull.Goals.{in-Granted, in_default}
 use Rattle.dmc_lemmas.proofs.Options.{err_is}
@@ -60,16 +61,17 @@ returns g c =
     let seen : (q : g.row.Q.Denot) → slice_get (map queue servers) s.0 ≡ Some q → x.queue ≡ q = λ q at.
     sym (seen_map queue servers s.0 q x (simp length-map at within) (rw place at c.index_mut.ensures.value)) ∙ get_or_from_slice_get (map queue servers) s.0 q q at in
     let changed = map-set queue servers i c.pull-reply.new.self ∙ ap (λ n. set (map queue servers) n c.pull-reply.new.self.queue) place in
+    let order = tag_order g.T.Ord.cmp g.T.Tag.ops.compare g.met.T.Ord.total g.met.T.Tag.compares in
     elim c.match-reply.branch [
       | in-Granted w ↦
-          let whole : w.count_grant.new.self ≡ record { servers = set (map queue servers) s.0 c.pull-reply.new.self.queue; clients = w.count_grant.new.self.clients } =
-          ap (λ (qs : List g.row.Q.Denot). let v : CoreValue g.row.Q.Denot = record { servers = qs; clients = w.count_grant.new.self.clients } in v) (w.count_grant.ensures.servers ∙ changed) in
+          let whole : w.add_grant.new.self ≡ record { servers = set (map queue servers) s.0 c.pull-reply.new.self.queue; clients = w.add_grant.new.self.clients } =
+          ap (λ (qs : List g.row.Q.Denot). let v : CoreValue g.row.Q.Denot = record { servers = qs; clients = w.add_grant.new.self.clients } in v) (w.add_grant.ensures.servers ∙ changed) in
           rw (w.self-is, whole, w.reply-is, ← c.self.view_is)
-          (pull_served g.T.Tag.ops g.Q.Scheduler.state core s c.args.at within none c.pull-reply.new.self.queue _ (λ q at. rw (← seen q at) w.in-Granted.ensures.steps)
-          w.count_grant.new.self.clients w.count_grant.ensures.clients)
+          (pull_granted g.T.Tag.ops g.Q.Scheduler.state core s c.args.at within none c.pull-reply.new.self.queue _ (λ q at. rw (← seen q at) w.in-Granted.ensures.steps) g.T.Tag.fraction g.T.Tag.is_value g.met.T.Tag.exact order
+          w.in-Granted.client _ w.in-Granted.phase _ w.in-Granted.cost refl w.add_grant.new.self.clients w.add_grant.ensures.nobody w.add_grant.ensures.granted)
       | in_default w ↦ rw (w.self-is, w.reply-is, ← c.self.view_is, changed)
-          (pull_served g.T.Tag.ops g.Q.Scheduler.state core s c.args.at within none c.pull-reply.new.self.queue c.pull-reply.result (λ q at. rw (← seen q at) c.pull-reply.ensures.steps)
-          hs (λ counting cs z. rw (not_granted s c.pull-reply.result cs w.in_default.not-Granted) z))
+          (pull_not_granted g.T.Tag.ops g.Q.Scheduler.state core s c.args.at within none c.pull-reply.new.self.queue c.pull-reply.result (λ q at. rw (← seen q at) c.pull-reply.ensures.steps) g.T.Tag.fraction g.T.Tag.is_value g.met.T.Tag.exact order
+          w.in_default.not-Granted)
     ]
 
 pub index-requires : goal.index-requires
@@ -78,14 +80,14 @@ index-requires g c = let within = simp length-map at (rw (← c.self.view_is) at
 pub index_mut-requires : goal.index_mut-requires
 index_mut-requires g c = let within = simp length-map at (rw (← c.self.view_is) at c.in_ok-index.ensures.ok.1) in omega arith
 
-pub count_grant-requires-clause-within : goal.count_grant-requires-clause-within
-count_grant-requires-clause-within g c =
+pub add_grant-requires-clause-within : goal.add_grant-requires-clause-within
+add_grant-requires-clause-within g c =
     let place : c.in_ok-index.index ≡ c.args.server.0 = c.in_ok-index.ensures.ok.0 in
     let within = rw place at (simp length-map at (rw (← c.self.view_is) at c.in_ok-index.ensures.ok.1)) in
     simp (length-map, length-set) within
 
-pub count_grant-requires-clause-room : goal.count_grant-requires-clause-room
-count_grant-requires-clause-room g c =
+pub add_grant-requires-clause-room : goal.add_grant-requires-clause-room
+add_grant-requires-clause-room g c =
     let servers = c.self.inside.servers.items in
     let x = c.index.result.now in
     let place : c.in_ok-index.index ≡ c.args.server.0 = c.in_ok-index.ensures.ok.0 in

@@ -1,16 +1,19 @@
-use Rattle.std.proofs.Common.{◌≡◌, ℕ, ◌-◌, ◌<◌, length, map, Ok, sym, ap, ◌∙◌, refl, subst, arith}
+use Rattle.std.proofs.Common.{◌≡◌, ◌-◌, ◌<◌, length, map, Ok, sym, ap, ◌∙◌, refl, subst, arith}
 use Rattle.std.proofs.lemmas.List.{length-map}
 use Rattle.std.proofs.Math.Seq.{map-set_same}
 use Rattle.std.proofs.lemmas.Option.{get_or_from_slice_get, slice_get_read}
+use Rattle.dmc_tag.proofs.Ids.{all_there}
 use Rattle.dmc_core.specs.Core.{Held, ClientFollows}
 use Rattle.dmc_core.specs.Events.{response}
-use Rattle.dmc_core.specs.internal.Parts.{one_if_full}
-use Rattle.dmc_core.specs.Run.{pair_at, grants, max_grants}
+use Rattle.dmc_core.specs.internal.Parts.{one_if_full, HasFewGrants, KeepsRooms}
+use Rattle.dmc_core.specs.Run.{pair_at, grants, max_grants, without_first}
 use Rattle.dmc_core.specs.declared.event.CoreEvent.TheVariants as events
 use Rattle.dmc_core.specs.declared.server.CoreServer.{CoreServer}
-use Rattle.dmc_core.proofs.Kept.{known, count_kept, count_changed, full_gone, full_not}
+use Rattle.dmc_core.proofs.Kept.{client_kept, known, count_kept, count_changed, full_gone, full_not}
+use Rattle.dmc_core.proofs.Lists.{removed_any}
 use Rattle.dmc_core.proofs.Counts.{full_counts-part, one_if_full-part}
-use Rattle.dmc_core.proofs.Runs.{client_no_names, client_follows}
+use Rattle.dmc_core.proofs.Runs.{client_no_names, client_follows, refusal_keeps}
+use Rattle.dmc_core.proofs.Pairs.{same_keeps_grants}
 use Rattle.dmc_core.proofs.cluster.Cluster.respond.Goals as goal
 use Rattle.dmc_core.proofs.cluster.Cluster.respond.Goals.{then-is_full, else-is_full}
 use Rattle.dmc_lemmas.proofs.Options.{err_is}
@@ -18,8 +21,8 @@ use Rattle.dmc_lemmas.proofs.Options.{err_is}
 pub returns-in_err-place : goal.returns-in_err-place
 returns-in_err-place g c =
     rw (err_is _ _ c.from_residual.ensures.1)
-    (client_no_names g.T.Tag.ops g.Q.Scheduler.state (events.Respond c.args.client c.args.server c.args.phase) c.args.self.now c.args.client c.args.server
-    (λ counting client. response c.args.server c.args.phase client) (λ run. refl) c.in_err-place.field-0.0 (sym c.place.ensures.value ∙ c.in_err-place.was))
+    (client_no_names g.T.Tag.ops g.Q.Scheduler.state (events.Respond c.args.client c.args.server c.args.phase c.args.cost) c.args.self.now c.args.client c.args.server
+    (λ counting client. response c.args.server c.args.phase c.args.cost client) (λ run. refl) c.in_err-place.field-0.0 (sym c.place.ensures.value ∙ c.in_err-place.was))
 
 pub returns-in_err-reply : goal.returns-in_err-reply
 returns-in_err-reply g c =
@@ -27,13 +30,14 @@ returns-in_err-reply g c =
     let h = c.index_mut.result.now in
     let placed = rw (← c.self.view_is) at (sym c.place.ensures.value ∙ c.in_ok-place.was) in
     let server = rw (← c.self.view_is) at c.in_ok-place.ensures.server in
-    let told : c.respond.result ≡ c.from_residual-in_err-reply.result = c.in_err-reply.was ∙ sym (err_is _ _ c.from_residual-in_err-reply.ensures.1) in
+    let same_answer : c.respond.result ≡ c.from_residual-in_err-reply.result = c.in_err-reply.was ∙ sym (err_is _ _ c.from_residual-in_err-reply.ensures.1) in
     rw (← c.self.view_is)
-    (client_follows g.T.Tag.ops g.Q.Scheduler.state (events.Respond c.args.client c.args.server c.args.phase) _ c.args.client c.args.server
-    (λ counting client. response c.args.server c.args.phase client) (λ run. refl) c.in_ok-place.place placed server c.respond.new.self c.from_residual-in_err-reply.result
-    (λ x at. subst (λ (y : Held). ClientFollows (λ counting client. response c.args.server c.args.phase client) y c.respond.new.self c.from_residual-in_err-reply.result)
-    (c.index_mut.ensures.value ∙ get_or_from_slice_get hs c.in_ok-place.place x h at) (rw (← told) c.respond.ensures.follows))
-    (λ e. absurd (c.respond.ensures.no_growth (told ∙ e))))
+    (client_follows g.T.Tag.ops g.Q.Scheduler.state (events.Respond c.args.client c.args.server c.args.phase c.args.cost) _ c.args.client c.args.server
+    (λ counting client. response c.args.server c.args.phase c.args.cost client) (λ run. refl) c.in_ok-place.place placed server c.respond.new.self c.from_residual-in_err-reply.result
+    (λ x at. subst (λ (y : Held). (c.respond.new.self.id ≡ y.id) × KeepsRooms y c.respond.new.self) (c.index_mut.ensures.value ∙ get_or_from_slice_get hs c.in_ok-place.place x h at) (c.respond.ensures.id, c.respond.ensures.rooms))
+    (λ x at. subst (λ (y : Held). ClientFollows (λ counting client. response c.args.server c.args.phase c.args.cost client) y c.respond.new.self c.from_residual-in_err-reply.result)
+    (c.index_mut.ensures.value ∙ get_or_from_slice_get hs c.in_ok-place.place x h at) (rw (← same_answer) c.respond.ensures.follows))
+    (λ e. absurd (c.respond.ensures.no_growth (same_answer ∙ e))))
 
 pub overflow_sub-index_mut : goal.overflow_sub-index_mut
 overflow_sub-index_mut g c =
@@ -48,7 +52,7 @@ overflow_sub-index_mut g c =
     let knows = known c.self.inside.ids hs servers c.self.invariant s x (slice_get_read servers (length servers) s.0 x refl within c.index_mut-then-is_full.ensures.value) in
     let part = full_counts-part s hs i h (slice_get_read hs (length hs) i h refl inside c.index.ensures) in
     let one = one_if_full-part c.args.phase (pair_at s h.pairs) in
-    let full : one_if_full (grants c.args.phase (pair_at s h.pairs)) ≡ 1 = ap one_if_full (sym c.grants-is_full.ensures ∙ c.if-is_full.true) in
+    let full : one_if_full (length (grants c.args.phase (pair_at s h.pairs))) ≡ 1 = ap one_if_full (sym c.grant_count-is_full.ensures ∙ c.if-is_full.true) in
     omega arith
 
 pub invariant_of-self-then-is_full : goal.invariant_of-self-then-is_full
@@ -65,14 +69,15 @@ invariant_of-self-then-is_full g c =
     let inside : i < length hs = rw (← c.self.view_is) at c.in_ok-place.ensures.within in
     let knows = known c.self.inside.ids hs servers c.self.invariant s x (slice_get_read servers (length servers) s.0 x refl within c.index_mut-then-is_full.ensures.value) in
     let same : c.index.result.now ≡ h = c.index.ensures ∙ get_or_from_slice_get hs i h c.index.result.now (slice_get_read hs (length hs) i h refl inside c.index_mut.ensures.value) in
-    let count : grants phase (pair_at s h.pairs) ≡ max_grants = ap (λ (z : Held). grants phase (pair_at s z.pairs)) (sym same) ∙ sym c.grants-is_full.ensures ∙ c.if-is_full.true in
-    let full : one_if_full (grants phase (pair_at s h.pairs)) ≡ 1 = ap one_if_full count in
-    let less : one_if_full (grants phase (pair_at s h.pairs) - 1) ≡ 0 = ap (λ (n : ℕ). one_if_full (n - 1)) count in
+    let count : length (grants phase (pair_at s h.pairs)) ≡ max_grants = ap (λ (z : Held). length (grants phase (pair_at s z.pairs))) (sym same) ∙ sym c.grant_count-is_full.ensures ∙ c.if-is_full.true in
+    let full : one_if_full (length (grants phase (pair_at s h.pairs))) ≡ 1 = ap one_if_full count in
+    let shorter = removed_any c.args.cost (grants phase (pair_at s h.pairs)) c.in_ok-reply.ensures.some in
+    let less = full_gone (length (grants phase (pair_at s h.pairs))) (length (without_first c.args.cost (grants phase (pair_at s h.pairs)))) shorter (omega arith) in
     let at = slice_get_read hs (length hs) i h refl inside c.index_mut.ensures.value in
     let part = full_counts-part s hs i h at in
     let one = one_if_full-part phase (pair_at s h.pairs) in
-    count_changed c.self.inside.ids hs servers c.self.invariant i h c.respond.new.self at c.respond.ensures.id s phase (grants phase (pair_at s h.pairs) - 1)
-    c.in_ok-reply.ensures.pairs within y (omega arith)
+    count_changed c.self.inside.ids hs servers c.self.invariant i h c.respond.new.self at c.respond.ensures.id s phase (without_first c.args.cost (grants phase (pair_at s h.pairs)))
+    c.in_ok-reply.ensures.pairs within (omega (arith, shorter)) y (omega arith)
 
 pub invariant_of-self-else-is_full : goal.invariant_of-self-else-is_full
 invariant_of-self-else-is_full g c =
@@ -85,11 +90,13 @@ invariant_of-self-else-is_full g c =
     let within : s.0 < length servers = simp length-map at (rw (← c.self.view_is) at c.in_ok-place.ensures.server) in
     let inside : i < length hs = rw (← c.self.view_is) at c.in_ok-place.ensures.within in
     let same : c.index.result.now ≡ h = c.index.ensures ∙ get_or_from_slice_get hs i h c.index.result.now (slice_get_read hs (length hs) i h refl inside c.index_mut.ensures.value) in
-    let count : c.grants-is_full.result ≡ grants phase (pair_at s h.pairs) = c.grants-is_full.ensures ∙ ap (λ (z : Held). grants phase (pair_at s z.pairs)) same in
-    let not_full = full_not (grants phase (pair_at s h.pairs)) (λ e. c.if-is_full.false (count ∙ e)) in
-    let less = full_gone (grants phase (pair_at s h.pairs)) c.in_ok-reply.ensures.some (omega arith) in
-    count_kept c.self.inside.ids hs servers c.self.invariant i h c.respond.new.self (slice_get_read hs (length hs) i h refl inside c.index_mut.ensures.value) c.respond.ensures.id s phase (grants phase (pair_at s h.pairs) - 1)
-    c.in_ok-reply.ensures.pairs within (not_full ∙ sym less)
+    let count : c.grant_count-is_full.result ≡ length (grants phase (pair_at s h.pairs)) = c.grant_count-is_full.ensures ∙ ap (λ (z : Held). length (grants phase (pair_at s z.pairs))) same in
+    let not_full = full_not (length (grants phase (pair_at s h.pairs))) (λ e. c.if-is_full.false (count ∙ e)) in
+    let few = all_there HasFewGrants hs i h c.self.invariant.few (slice_get_read hs (length hs) i h refl inside c.index_mut.ensures.value) in
+    let shorter = removed_any c.args.cost (grants phase (pair_at s h.pairs)) c.in_ok-reply.ensures.some in
+    let less = full_gone (length (grants phase (pair_at s h.pairs))) (length (without_first c.args.cost (grants phase (pair_at s h.pairs)))) shorter (few s phase) in
+    count_kept c.self.inside.ids hs servers c.self.invariant i h c.respond.new.self (slice_get_read hs (length hs) i h refl inside c.index_mut.ensures.value) c.respond.ensures.id s phase (without_first c.args.cost (grants phase (pair_at s h.pairs)))
+    c.in_ok-reply.ensures.pairs within (omega (arith, shorter, few s phase)) (not_full ∙ sym less)
 
 pub returns : goal.returns
 returns g c =
@@ -99,10 +106,11 @@ returns g c =
     let h = c.index_mut.result.now in
     let placed = rw (← c.self.view_is) at (sym c.place.ensures.value ∙ c.in_ok-place.was) in
     let server = rw (← c.self.view_is) at c.in_ok-place.ensures.server in
-    let follows : ClientFollows (λ counting client. response c.args.server c.args.phase client) h c.respond.new.self (Ok c.in_ok-reply.reply) = rw c.in_ok-reply.was at c.respond.ensures.follows in
-    let done = client_follows g.T.Tag.ops g.Q.Scheduler.state (events.Respond c.args.client c.args.server c.args.phase) (record { servers = map queue servers; clients = hs }) c.args.client c.args.server
-    (λ counting client. response c.args.server c.args.phase client) (λ run. refl) c.in_ok-place.place placed server c.respond.new.self (Ok c.in_ok-reply.reply)
-    (λ x at. subst (λ (y : Held). ClientFollows (λ counting client. response c.args.server c.args.phase client) y c.respond.new.self (Ok c.in_ok-reply.reply))
+    let follows : ClientFollows (λ counting client. response c.args.server c.args.phase c.args.cost client) h c.respond.new.self (Ok c.in_ok-reply.reply) = rw c.in_ok-reply.was at c.respond.ensures.follows in
+    let done = client_follows g.T.Tag.ops g.Q.Scheduler.state (events.Respond c.args.client c.args.server c.args.phase c.args.cost) (record { servers = map queue servers; clients = hs }) c.args.client c.args.server
+    (λ counting client. response c.args.server c.args.phase c.args.cost client) (λ run. refl) c.in_ok-place.place placed server c.respond.new.self (Ok c.in_ok-reply.reply)
+    (λ x at. subst (λ (y : Held). (c.respond.new.self.id ≡ y.id) × KeepsRooms y c.respond.new.self) (c.index_mut.ensures.value ∙ get_or_from_slice_get hs c.in_ok-place.place x h at) (c.respond.ensures.id, c.respond.ensures.rooms))
+    (λ x at. subst (λ (y : Held). ClientFollows (λ counting client. response c.args.server c.args.phase c.args.cost client) y c.respond.new.self (Ok c.in_ok-reply.reply))
     (c.index_mut.ensures.value ∙ get_or_from_slice_get hs c.in_ok-place.place x h at) follows)
     (λ e. cc) in
     elim c.if-is_full.branch [
@@ -121,8 +129,8 @@ index_mut-requires g c = let within = rw (← c.self.view_is) at c.in_ok-place.e
 pub index_mut-requires-then-is_full : goal.index_mut-requires-then-is_full
 index_mut-requires-then-is_full g c = let within = simp length-map at (rw (← c.self.view_is) at c.in_ok-place.ensures.server) in omega arith
 
-pub grants-is_full-requires : goal.grants-is_full-requires
-grants-is_full-requires g c =
+pub grant_count-is_full-requires : goal.grant_count-is_full-requires
+grant_count-is_full-requires g c =
     let clients = c.self.inside.clients.items in
     let within : c.in_ok-place.place < length clients = rw (← c.self.view_is) at c.in_ok-place.ensures.within in
     (rw (← c.self.view_is) at c.in_ok-place.ensures.paired) c.index.result.now (slice_get_read clients (length clients) c.in_ok-place.place c.index.result.now refl within c.index.ensures)
@@ -132,3 +140,13 @@ respond-requires g c =
     let clients = c.self.inside.clients.items in
     let within : c.in_ok-place.place < length clients = rw (← c.self.view_is) at c.in_ok-place.ensures.within in
     (rw (← c.self.view_is) at c.in_ok-place.ensures.paired) c.index_mut.result.now (slice_get_read clients (length clients) c.in_ok-place.place c.index_mut.result.now refl within c.index_mut.ensures.value)
+
+pub invariant_of-self : goal.invariant_of-self
+invariant_of-self g c =
+    let hs = c.self.inside.clients.items in
+    let h = c.index_mut.result.now in
+    let i = c.in_ok-place.place in
+    let inside : i < length hs = rw (← c.self.view_is) at c.in_ok-place.ensures.within in
+    let same = refusal_keeps (λ counting client. response c.args.server c.args.phase c.args.cost client) h c.respond.new.self c.respond.result c.in_err-reply.field-0.0 c.in_err-reply.was c.respond.ensures.follows in
+    client_kept c.self.inside.ids hs c.self.inside.servers.items c.self.invariant i h c.respond.new.self (slice_get_read hs (length hs) i h refl inside c.index_mut.ensures.value)
+    c.respond.ensures.id (same_keeps_grants h.pairs c.respond.new.self.pairs (ap (λ (y : Held). y.pairs) same))

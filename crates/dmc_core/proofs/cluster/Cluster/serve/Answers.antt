@@ -1,4 +1,4 @@
-use Rattle.std.proofs.Common.{◌≡◌, ◌<◌, length, map, set, sym, ◌∙◌, refl, arith}
+use Rattle.std.proofs.Common.{Some, ap, ◌≡◌, ◌<◌, length, map, set, sym, ◌∙◌, refl, arith}
 use Rattle.std.proofs.lemmas.List.{length-map, map-set}
 use Rattle.std.proofs.lemmas.Option.{get_or_from_slice_get, slice_get_read}
 use Rattle.dmc_core.specs.declared.server.CoreServer.{CoreServer}
@@ -10,6 +10,8 @@ use Rattle.dmc_core.proofs.cluster.Cluster.serve.Given.{Over}
 use Rattle.dmc_core.proofs.cluster.Cluster.serve.Goals.{After-serve}
 use Rattle.dmc_core.proofs.cluster.Cluster.serve.Goals as goal
 use Rattle.dmc_lemmas.proofs.Options.{err_is}
+use Rattle.dmc_tag.specs.Steps.{Steps}
+use Rattle.dmc_core.proofs.Rooms.{has_room_state, served_rooms}
 
 pub returns-in_err-index : goal.returns-in_err-index
 returns-in_err-index g c event served =
@@ -49,7 +51,13 @@ returns g c event served =
     (server_follows g.T.Tag.ops g.Q.Scheduler.state event _ c.args.server c.args.command.now
     (served_is g.T.Tag.ops c.args.server c.args.command.now event served) (rw (← place) within) c.serve.new.self.queue c.in_ok-reply.reply
     (λ q at. let same : x.queue ≡ q = sym (seen_map queue servers i q x (simp length-map at within) c.index_mut.ensures.value) ∙ get_or_from_slice_get (map queue servers) i q q (rw place at) in
-    rw (← same) (rw c.in_ok-reply.was at c.serve.ensures.steps)))
+    rw (← same) (rw c.in_ok-reply.was at c.serve.ensures.steps))
+    (λ q at all.
+    let same : x.queue ≡ q = sym (seen_map queue servers i q x (simp length-map at within) c.index_mut.ensures.value) ∙ get_or_from_slice_get (map queue servers) i q q (rw place at) in
+    let stepped : Steps g.T.Tag.ops (g.Q.Scheduler.state x.queue) (g.Q.Scheduler.state c.serve.new.self.queue) c.args.command.now (Some c.in_ok-reply.reply) = rw c.in_ok-reply.was at c.serve.ensures.steps in
+    rw (ap (λ p. p.0) stepped)
+    (has_room_state c.args.server (g.Q.Scheduler.state x.queue) _ (served_rooms g.T.Tag.ops c.args.server c.args.command.now event served (g.Q.Scheduler.state x.queue)) c.self.inside.clients.items
+    (rw same all))))
 
 pub index_mut-requires : goal.index_mut-requires
 index_mut-requires g c = let within = simp length-map at (rw (← c.self.view_is) at c.in_ok-index.ensures.ok.1) in omega arith

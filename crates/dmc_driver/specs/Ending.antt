@@ -26,7 +26,7 @@ widest = record { events = max_events; completions = max_run_completions }
 
 -- ---- what the threads left
 
--- no history has more events than the limits allow, and no tracker more completions
+-- no history has more events than the limits allow, and what a tracker's completions cost is no more than they allow
 pub record AreWithin {T : Type 0} (limits : LimitsValue) (left : Left T) : Type 0 where
   pub histories : All (λ book. length book.history ≤ limits.events) left.books
   pub completions : All (λ book. (completions book.events).delta ≤ limits.completions) left.trackers
@@ -40,9 +40,9 @@ pub record IsCounted {T : Type 0} (book : BookState T) : Type 0 where
   pub workers : AllByRecursion (λ w. IsWorker book.history w ⊎ HasLeft book.history w) book.workers
   pub desks : AreDesks book.history book.server book.workers book.desks
 
--- The parts are those of one cluster, set up as the scene says, and their circles hold. Each server's history begins with the
--- registrations of the scene's clients, with their rates. All are within the limits. The books count what happened: those of a
--- server its history, and those of a tracker its list.
+-- The parts are those of one cluster, set up as the scene says, and their circles hold, in number and in cost. Each server's
+-- history begins with the registrations of the scene's clients, with their rates. All are within the limits. The books count what
+-- happened: those of a server its history, and those of a tracker its list.
 pub record IsRun {T : Type 0} (scene : SceneValue) (limits : LimitsValue) (left : Left T) : Type 0 where
   pub together : AreTogether scene left
   pub circles : AreCircles left
@@ -53,8 +53,8 @@ pub record IsRun {T : Type 0} (scene : SceneValue) (limits : LimitsValue) (left 
 
 -- ---- the report
 
--- The report is the one of what was left, which is a run of the scene. So `held` is what was left in the passes, and `completed`
--- the tracker's completions.
+-- The report is the one of what was left, which is a run of the scene. So `held` is what was left in the passes, `completed` how
+-- many responses the tracker's list has, and `cost` what they cost.
 pub record IsReportOfLeft {T : Type 0} (ops : Tagging T) (scene : SceneValue) (limits : LimitsValue) (left : Left T) (r : ClusterReport T) : Type 0 where
   pub run : IsRun scene limits left
   pub its : IsReportOf left r

@@ -35,10 +35,10 @@ use std::thread::Threads;
 /// Runs the cluster of a scene in threads, one for each client and for each worker of a server, and reports the result. It
 /// returns when all of them have ended.
 ///
-/// Each client's worker sends its requests to the servers that its plan names, with at most its window outstanding. Each worker of
-/// a server pulls, has what is granted served, and responds. The answer is Ok if every client sent and completed its requests,
-/// nothing is left, and no worker stopped; otherwise see `DriveFault`. An allocation failure in a thread is a stop in the
-/// report.
+/// Each client's worker sends its requests, with their costs by the scene, to the servers that its plan names, with at most its
+/// window outstanding. Each worker of a server pulls, has what is granted served, and responds. The answer is Ok if every client
+/// sent and completed its requests, nothing is left, and no worker stopped; otherwise see `DriveFault`. An allocation failure in a
+/// thread is a stop in the report.
 ///
 /// If it is `Torn`, `settle_run` is, whose contract says exactly when; neither opening nor a limit is a reason. That no run is
 /// torn is tested, not proved.

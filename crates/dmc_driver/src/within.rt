@@ -21,7 +21,7 @@ pub(crate) fn keep_to_most<T: Tag, I: Indexes<T>, S: Setup>(books: &[QueueBook<T
     }
 }
 
-/// No tracker has counted more completions than it may.
+/// No tracker has counted completions that cost more than it may count.
 pub(crate) fn count_within<S: Setup>(trackers: &[TrackerBook<S>])
     ensures { All (λ book. (completions book.events).delta ≤ book.tracker.most) trackers.now }
 {

@@ -60,7 +60,7 @@ first_new reach n names ds [] p at = absurd (none-some p at)
 first_new reach n names ds (w ∷ ws) p at = subst (IsEnrolled (new_workers reach n (w ∷ ws))) (same_Some (new_pass 0 n names ds w) p at) (record {
   within = omega arith;
   its_worker = refl;
-  its_tills = (refl, refl, refl, refl, refl);
+  its_tills = (refl, refl, refl, refl, refl, refl);
   still = omega arith;
 })
 
@@ -102,9 +102,9 @@ has_desk ds cs k c named within is =
 
 -- ---- a command that the book ran
 
-enrolled_after : {T : Type 0} (e : Event T) (command : Command) (reply : Reply T) (ws : List WorkerSide) (p : PassState) → IsEnrolled ws p
-    → IsEnrolled (map (worker_after e) ws) (pass_after command reply p)
-enrolled_after e command reply ws p h =
+enrolled_after : {T : Type 0} (e : Event T) (server : ℕ) (command : Command) (reply : Reply T) (ws : List WorkerSide) (p : PassState) → IsEnrolled ws p
+    → IsEnrolled (map (worker_after e) ws) (pass_after server command reply p)
+enrolled_after e server command reply ws p h =
     let at : get_or (map (worker_after e) ws) p.place no_worker ≡ worker_after e (get_or ws p.place no_worker) =
     get_or-map (worker_after e) ws p.place no_worker no_worker h.within in
     record {
@@ -124,8 +124,8 @@ module _ {T : Type 0} (ops : Tagging T) (old new : BookState T) (before later : 
   still_enrolled h =
       let e = event_of before.worker command reply in
       subst (λ (p : PassState). IsEnrolled new.workers p) (sym ran.pass)
-      (subst (λ (ws : List WorkerSide). IsEnrolled ws (pass_after command reply before)) (sym (ap (λ (b : BookState T). b.workers) ran.book))
-      (enrolled_after e command reply old.workers before h))
+      (subst (λ (ws : List WorkerSide). IsEnrolled ws (pass_after old.server command reply before)) (sym (ap (λ (b : BookState T). b.workers) ran.book))
+      (enrolled_after e old.server command reply old.workers before h))
 
   desks_kept : map client_of new.desks ≡ map client_of old.desks
   desks_kept = ap (λ (b : BookState T). map client_of b.desks) ran.book ∙ same_clients (event_of before.worker command reply) old.desks

@@ -40,8 +40,8 @@ pub record IsOpenedBook {T : Type 0} (scene : SceneValue) (limits : LimitsValue)
   pub most : book.most ≡ limits.events
   pub registered : IsRegistered scene.clients book.history
 
--- a client's tracker: which completions it counts, how many of them, and how long its list may become; and that no entry was
--- released
+-- a client's tracker: which completions it counts, up to which cost of all of them, and how long its list may become; and that no
+-- entry was released
 pub record IsOpenedTracker (scene : SceneValue) (limits : LimitsValue) (book : tracker_book.BookState) : Type 0 where
   pub counting : book.tracker.counting ≡ scene.counting
   pub most : book.tracker.most ≡ limits.completions

@@ -1,4 +1,7 @@
 //! The worker of a client: it sends the client's requests.
+ghost use Rattle.std.specs.Prelude.{◌≡◌, IfOk};
+ghost use Rattle.dmc_ledger.specs.Bundles.{Covers, stamp_holdings};
+ghost use Rattle.dmc_scene.specs.SceneValue.{cost_at};
 
 use crate::bell::{Doorbell, Ring};
 use crate::cause::{of_entry, of_submit};
@@ -10,6 +13,8 @@ use dmc_book::pass::WorkerPass;
 use dmc_index::index::Indexes;
 use dmc_ledger::bundle::StampTills;
 use dmc_ledger::setup::Setup;
+use dmc_ledger::stamp::Stamp;
+use dmc_scene::client::SceneClient;
 use dmc_settle::report::StopCause;
 use dmc_tag::tag::Tag;
 use dmc_tlock::pass::ClientPass;
@@ -24,10 +29,8 @@ pub(crate) struct ClientJob<S: Setup> {
     pub(crate) place: usize,
     /// The server of each of its requests.
     pub(crate) plan: Vec<ServerId>,
-    /// How many requests it sends.
-    pub(crate) requests: u32,
-    /// How many of them may be outstanding.
-    pub(crate) window: u32,
+    /// How many requests it sends, what they cost, and how many of them may be outstanding.
+    pub(crate) client: SceneClient,
     pub(crate) tills: ClientPass<S>,
     /// Its pass at server 0, 1, ..
     pub(crate) passes: Vec<WorkerPass<S>>,
@@ -53,7 +56,8 @@ where
     job.stop = send_all(rt, cluster, moments, job).err();
 }
 
-/// Sends the requests, each with its number as its token. It waits for a ring if the window is full.
+/// Sends the requests, each with its number as its token and with its cost by the scene. It waits for a ring if the window is
+/// full.
 fn send_all<T, I, S, M, R>(
     rt: &R,
     cluster: &Cluster<QueueBook<T, I, S>, AsOpened<S>, S>,
@@ -68,13 +72,13 @@ where
     R: Wait,
 {
     let mut outstanding = 0;
-    for request in 0..job.requests {
-        if outstanding < job.window {
+    for number in 0..job.client.requests() {
+        if outstanding < job.client.window() {
             outstanding += 1;
         } else {
             hear_completed(rt, &mut job.bell)?;
         }
-        send(rt, cluster, moments, job, request)?;
+        send(rt, cluster, moments, job, number)?;
     }
     Ok(())
 }
@@ -87,13 +91,21 @@ fn hear_completed<R: Wait>(rt: &R, bell: &mut Doorbell) -> Result<(), StopCause>
     }
 }
 
-/// Sends a request to the server that is planned.
+/// A request that is sent: whose, its number, and where to.
+#[derive(Drop)]
+struct Request {
+    client: SceneClient,
+    number: u32,
+    server: ServerId,
+}
+
+/// Sends the request with this number to the server that is planned.
 fn send<T, I, S, M, R>(
     rt: &R,
     cluster: &Cluster<QueueBook<T, I, S>, AsOpened<S>, S>,
     moments: &M,
     job: &mut ClientJob<S>,
-    request: u32,
+    number: u32,
 ) -> Result<(), StopCause>
 where
     T: Tag,
@@ -102,7 +114,7 @@ where
     M: Moments,
     R: Wait,
 {
-    let Some(server) = job.plan.get(request as usize) else {
+    let Some(server) = job.plan.get(number as usize) else {
         return Err(StopCause::Stray);
     };
     let server = *server;
@@ -119,8 +131,12 @@ where
     let Some(tills) = job.tills.tills(server) else {
         return Err(StopCause::Stray);
     };
-    let at = moments.now();
-    submit(rt, tracker, queue, pass, tills, server, Token(request), at)
+    let request = Request {
+        client: job.client,
+        number,
+        server,
+    };
+    submit(rt, tracker, queue, pass, tills, &request, moments.now())
 }
 
 /// Stamps a request at its client's tracker, and submits it at the server's queue.
@@ -130,16 +146,31 @@ fn submit<T: Tag, I: Indexes<T>, S: Origin, R: Wait>(
     queue: &ServerLock<T, I, S>,
     pass: &mut WorkerPass<S>,
     tills: &mut StampTills<S>,
-    server: ServerId,
-    token: Token,
+    request: &Request,
     at: Moment,
 ) -> Result<(), StopCause> {
-    let stamp = match tracker.stamp(rt, server, tills) {
-        Ok(stamp) => stamp,
-        Err(fault) => return Err(of_entry(fault)),
-    };
+    let stamp = stamp(rt, tracker, tills, request)?;
+    let token = Token(request.number);
     match queue.submit(rt, pass, tills, stamp, token, at) {
         Ok(_) => Ok(()),
         Err(fault) => Err(of_submit(fault.cause)),
+    }
+}
+
+/// Stamps a request with its cost by the scene.
+fn stamp<S: Origin, R: Wait>(
+    rt: &R,
+    tracker: &ClientLock<S>,
+    tills: &mut StampTills<S>,
+    request: &Request,
+) -> Result<Stamp, StopCause>
+    ensures server { IfOk result (λ stamp. stamp.server ≡ request.now.server.0) }
+    ensures cost { IfOk result (λ stamp. stamp.params.cost ≡ cost_at request.now.client.costs request.now.number) }
+    ensures covered { IfOk result (λ stamp. Covers (stamp_holdings tills.new) stamp.params) }
+{
+    let cost = request.client.cost(request.number);
+    match tracker.stamp(rt, request.server, cost, tills) {
+        Ok(stamp) => Ok(stamp),
+        Err(fault) => Err(of_entry(fault)),
     }
 }

@@ -5,7 +5,7 @@ ghost use Rattle.dmc_types.specs.Limits.{max_events, max_run_completions};
 use dmc_types::limits::MAX_EVENTS;
 use std::marker::Model;
 
-/// The most events of a history, 256 to 2^30, and the most completions that a tracker counts, 1 to 2^32-1.
+/// The most events of a history, 256 to 2^30, and the most that a tracker counts of completions, 1 to 2^32-1 units of cost.
 #[derive(Clone, Copy, Debug, PartialEq, Eq)]
 pub struct Limits {
     events: u32,
@@ -41,7 +41,7 @@ impl Limits {
         })
     }
 
-    /// The widest limits: 2^30 events and 2^32-1 completions.
+    /// The widest limits: 2^30 events, and completions of 2^32-1 units of cost.
     pub fn widest() -> Limits
         ensures { result ≡ record { events = max_events; completions = max_run_completions } }
     {
@@ -60,7 +60,7 @@ impl Limits {
         self.events
     }
 
-    /// The most completions that a tracker counts.
+    /// The most that a tracker counts of completions, in units of cost.
     pub fn completions(self) -> u32
         ensures value { result ≡ self.completions }
         ensures some { 1 ≤ result }

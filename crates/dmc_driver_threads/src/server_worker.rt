@@ -106,26 +106,39 @@ where
     R: Wait,
 {
     match queue.pull_or_wait(rt, &mut job.pass, moments.now()) {
-        Ok(
-            Pulled::Returning {
-                client,
-                token,
-                phase,
-                beyond: _,
-            },
-        ) => {
+        Ok(pulled) => serve_pulled(rt, cluster, service, pulled, job),
+        Err(fault) => Err(of_pull(fault)),
+    }
+}
+
+/// Has what a pull granted served. Whether there may be more.
+fn serve_pulled<B: Lasting, W: Witness<B>, S: Origin, V: Service, R: Wait>(
+    rt: &R,
+    cluster: &Cluster<B, W, S>,
+    service: &V,
+    pulled: Pulled,
+    job: &mut ServerJob<S>,
+) -> Result<bool, StopCause> {
+    match pulled {
+        Pulled::Returning {
+            client,
+            token,
+            phase,
+            cost,
+            beyond: _,
+        } => {
             let granted = Job {
                 server: job.server,
                 client,
                 token,
                 phase,
+                cost,
             };
             complete(rt, cluster, service, &granted, job)?;
             Ok(true)
         }
-        Ok(Pulled::Future(_)) => Ok(true),
-        Ok(Pulled::Nothing) => Ok(false),
-        Err(fault) => Err(of_pull(fault)),
+        Pulled::Future(_) => Ok(true),
+        Pulled::Nothing => Ok(false),
     }
 }
 
@@ -144,21 +157,20 @@ fn complete<B: Lasting, W: Witness<B>, S: Origin, V: Service, R: Wait>(
     if failed {
         count_failure(&mut job.failures, place);
     }
-    notify_client(rt, &cluster.trackers, place, granted, job)
+    notify_client(rt, &cluster.trackers, place, job)
 }
 
-/// Responds for a granted request to the client at a place, and rings at its door.
+/// Responds for the granted request to the client at a place, and rings at its door.
 fn notify_client<S: Origin, R: Wait>(
     rt: &R,
     trackers: &[ClientLock<S>],
     place: usize,
-    granted: &Job,
     job: &mut ServerJob<S>,
 ) -> Result<(), StopCause> {
     let Some(tracker) = trackers.get(place) else {
         return Err(StopCause::Stray);
     };
-    respond(rt, tracker, granted, &mut job.pass)?;
+    respond(rt, tracker, &mut job.pass)?;
     if let Some(ringer) = job.ringers.get_mut(place) {
         ringer.ring(rt, Ring::Completed);
     }
@@ -172,21 +184,23 @@ fn count_failure(failures: &mut [u64], place: usize) {
     }
 }
 
-/// Responds for a granted request at its client's tracker, which takes a unit of the grant.
+/// Responds for the request that was granted last at its client's tracker, which takes the unit of the grant.
 fn respond<S: Origin, R: Wait>(
     rt: &R,
     tracker: &ClientLock<S>,
-    granted: &Job,
     pass: &mut WorkerPass<S>,
 ) -> Result<(), StopCause> {
-    let Some(till) = pass.grant_till(granted.client, granted.phase) else {
+    let Some(unit) = pass.take_unit() else {
         return Err(StopCause::Stray);
     };
-    if till.amount() == 0 {
+    let Some(tills) = pass.grant_tills(unit.client(), unit.phase()) else {
+        return Err(StopCause::Stray);
+    };
+    if !tills.holds(unit.cost()) {
         return Err(StopCause::Stray);
     }
-    match tracker.respond(rt, granted.server, granted.phase, till) {
+    match tracker.respond(rt, unit, tills) {
         Ok(()) => Ok(()),
-        Err(fault) => Err(of_entry(fault)),
+        Err(fault) => Err(of_entry(fault.cause)),
     }
 }

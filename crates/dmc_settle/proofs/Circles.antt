@@ -7,7 +7,7 @@ use Rattle.dmc_ledger.specs.Bundles.{ClientSide}
 use Rattle.dmc_tlock.specs.BookState.{tills_at}
 use Rattle.dmc_tlock.specs.Consistent.{IsConsistent}
 use Rattle.dmc_book.specs.BookState.{no_desk}
-use Rattle.dmc_book.specs.Counts.{count, stamps_added, delta_added, rho_added, grants_added}
+use Rattle.dmc_book.specs.Counts.{count, stamps_added, delta_added, rho_added, grants_added, costs_added}
 use Rattle.dmc_book.specs.Settling.{AreSettledDesks, left_in}
 use Rattle.dmc_scene.specs.SceneValue.{SceneValue, ClientValue}
 use Rattle.dmc_settle.specs.Circle.{AreCircles, IsCircle}
@@ -62,8 +62,14 @@ module _ {T : Type 0} (ops : Tagging T) (scene : SceneValue) (r : Left T) (desks
         stamps = (let e = d.stamps ∙ ap (λ n. count (stamps_added n) book.history) same in omega (arith, e, pair.stamps));
         delta = (let e = d.delta ∙ ap (λ n. count (delta_added n) book.history) same in omega (arith, e, pair.delta));
         rho = (let e = d.rho ∙ ap (λ n. count (rho_added n) book.history) same in omega (arith, e, pair.rho));
-        reservation = (let e = d.reservations.total ∙ ap (λ n. count (grants_added n Reservation) book.history) same in omega (arith, e, d.reservations.gathered, pair.reservation));
-        priority = (let e = d.priorities.total ∙ ap (λ n. count (grants_added n Priority) book.history) same in omega (arith, e, d.priorities.gathered, pair.priority));
+        reservation = record {
+          grants = (let e = d.reservations.grants.total ∙ ap (λ n. count (grants_added n Reservation) book.history) same in omega (arith, e, d.reservations.grants.gathered, pair.reservation.grants));
+          cost = (let e = d.reservations.cost.total ∙ ap (λ n. count (costs_added n Reservation) book.history) same in omega (arith, e, d.reservations.cost.gathered, pair.reservation.cost));
+        };
+        priority = record {
+          grants = (let e = d.priorities.grants.total ∙ ap (λ n. count (grants_added n Priority) book.history) same in omega (arith, e, d.priorities.grants.gathered, pair.priority.grants));
+          cost = (let e = d.priorities.cost.total ∙ ap (λ n. count (costs_added n Priority) book.history) same in omega (arith, e, d.priorities.cost.gathered, pair.priority.cost));
+        };
       }
 
   pub circles : AreCircles r

@@ -6,20 +6,18 @@ use Rattle.std.proofs.lemmas.Option.{slice_get-get_or}
 use Rattle.dmc_types.specs.declared.config.PhaseType.{PhaseType}
 use Rattle.dmc_types.specs.declared.config.PhaseType.TheVariants.{Reservation, Priority}
 use Rattle.dmc_tag.specs.Tag.{Tagging}
-use Rattle.dmc_tracker.specs.TrackerList.{completions, responses}
+use Rattle.dmc_tracker.specs.TrackerList.{responses}
 use Rattle.dmc_ledger.specs.Bundles.{ClientSide}
-use Rattle.dmc_tlock.specs.BookState.{no_side}
-use Rattle.dmc_tlock.specs.Consistent.{responded}
 use Rattle.dmc_book.specs.BookState.{no_desk}
 use Rattle.dmc_book.specs.Counts.{count, grants_added, phase_grants}
 use Rattle.dmc_book.specs.Settling.{left_in}
-use Rattle.dmc_book.specs.declared.settled.GrantsHeld.{GrantsHeld}
 use Rattle.dmc_scene.specs.SceneValue.{SceneValue}
 use Rattle.dmc_settle.specs.internal.Filled as filled
 use Rattle.dmc_settle.specs.internal.Filled.{ClientNumbers, client_numbers, no_client_numbers, no_server_numbers, server_numbers}
 use Rattle.dmc_settle.specs.internal.Places.{no_book, no_tracker}
 use Rattle.dmc_settle.specs.Left.{Left}
-use Rattle.dmc_settle.specs.Reports.{IsReport, units_left}
+use Rattle.dmc_settle.specs.Reports.{IsReport, all_responses, units_left}
+use Rattle.dmc_settle.specs.declared.report.UnitsHeld.{UnitsHeld}
 use Rattle.dmc_settle.specs.declared.report.ClientReport.{ClientReport}
 use Rattle.dmc_settle.specs.declared.report.ServerReport.{ServerReport}
 use Rattle.dmc_settle.specs.declared.report.ClusterReport.{ClusterReport}
@@ -28,7 +26,7 @@ use Rattle.dmc_settle.proofs.Circles.{IsSettledCluster, circle_at, its_desk, its
 use Rattle.dmc_settle.proofs.Granted.{left_at_all}
 use Rattle.dmc_settle.proofs.Ready.{client_at, desks_long, no_client, server_at}
 use Rattle.dmc_settle.proofs.Reported.{client_report, clients_long, server_report, servers_long}
-use Rattle.dmc_settle.proofs.Sums.{sum_to, sum_places, same_sum, sum_plus, sum_grid}
+use Rattle.dmc_settle.proofs.Sums.{sum_to, sum_places, same_sum, sum_plus, sum_grid, sum_range}
 
 module _ {T : Type 0} (ops : Tagging T) (scene : SceneValue) (r : Left T) (desks : List (List ClientSide)) (old new : ClusterReport T)
     (h : IsSettledCluster ops scene r desks old new) where
@@ -37,7 +35,7 @@ module _ {T : Type 0} (ops : Tagging T) (scene : SceneValue) (r : Left T) (desks
   answered s c = responses (record { 0 = s }) Reservation (get_or r.trackers c no_tracker).events + responses (record { 0 = s }) Priority (get_or r.trackers c no_tracker).events
 
   abbrev left : ℕ → ℕ → ℕ
-  left s c = left_in Reservation c (get_or r.worker_passes s []) + left_in Priority c (get_or r.worker_passes s [])
+  left s c = (left_in Reservation c (get_or r.worker_passes s [])).grants + (left_in Priority c (get_or r.worker_passes s [])).grants
 
   abbrev granted_in : PhaseType → ℕ → ℕ → ℕ
   granted_in phase s c = count (grants_added (get_or (get_or r.books s no_book).desks c no_desk).client phase) (get_or r.books s no_book).history
@@ -54,17 +52,15 @@ module _ {T : Type 0} (ops : Tagging T) (scene : SceneValue) (r : Left T) (desks
       its_desk ops scene r desks old new h c s _ in_servers at ∙ sym (its_tracker ops scene r desks old new h c _ at) in
       let reservations = ap (λ n. count (grants_added n Reservation) book.history) same in
       let priorities = ap (λ n. count (grants_added n Priority) book.history) same in
-      omega (arith, circle.reservation, circle.priority, reservations, priorities)
+      omega (arith, circle.reservation.grants, circle.priority.grants, reservations, priorities)
 
-  -- a client's completions are those at each server
-  completed_at : (c : ℕ) → c < length scene.clients → (completions (get_or r.trackers c no_tracker).events).delta ≡ sum_to scene.servers (λ s. answered s c)
+  -- a client's responses are those at each server
+  completed_at : (c : ℕ) → c < length scene.clients
+      → all_responses (length (get_or r.trackers c no_tracker).desks) (get_or r.trackers c no_tracker).events ≡ sum_to scene.servers (λ s. answered s c)
   completed_at c in_clients =
       let tracker = get_or r.trackers c no_tracker in
-      let consistent = h.consistent c (omega (arith, in_clients, h.together.trackers)) in
       let part = client_at scene r h.together c _ (slice_get-get_or scene.clients c no_client in_clients) in
-      consistent.completed ∙ sum_places responded tracker.desks no_side ∙ ap (λ n. sum_to n (λ s. responded (get_or tracker.desks s no_side))) part.desks
-      ∙ same_sum scene.servers (λ s. responded (get_or tracker.desks s no_side)) (λ s. answered s c)
-      (λ s within. (let its = (consistent.desks (record { 0 = s }) (omega (arith, within, part.desks))).held in omega (arith, its.reservation, its.priority)))
+      ap (λ n. all_responses n tracker.events) part.desks ∙ sum_range (λ s. answered s c) scene.servers
 
   completed_is : sum_by (λ c. c.completed) new.clients.items ≡ sum_to scene.servers (λ s. sum_to (length scene.clients) (λ c. answered s c))
   completed_is =
@@ -84,8 +80,8 @@ module _ {T : Type 0} (ops : Tagging T) (scene : SceneValue) (r : Left T) (desks
       let passes = get_or r.worker_passes s [] in
       let part = server_at scene r h.together s in_servers in
       let long = desks_long scene r h.together s in_servers in
-      let of_phase = (λ (phase : PhaseType). sym (left_at_all phase book.workers book.desks passes part.own.each) ∙ ap (λ n. sum_to n (λ c. left_in phase c passes)) long) in
-      let both = sum_plus (length scene.clients) (λ c. left_in Reservation c passes) (λ c. left_in Priority c passes) in
+      let of_phase = (λ (phase : PhaseType). sym (left_at_all phase book.workers book.desks passes part.own.each) ∙ ap (λ n. sum_to n (λ c. (left_in phase c passes).grants)) long) in
+      let both = sum_plus (length scene.clients) (λ c. (left_in Reservation c passes).grants) (λ c. (left_in Priority c passes).grants) in
       omega (arith, of_phase Reservation, of_phase Priority, both)
 
   granted_at : (s : ℕ) → s < scene.servers
@@ -111,7 +107,7 @@ module _ {T : Type 0} (ops : Tagging T) (scene : SceneValue) (r : Left T) (desks
   left_is : sum_by (λ s. s.held.reservation + s.held.priority) new.servers.items ≡ sum_to scene.servers (λ s. sum_to (length scene.clients) (λ c. left s c))
   left_is =
       rows_sum (λ n. n.held.reservation + n.held.priority) (λ s. sum_to (length scene.clients) (λ c. left s c))
-      (λ s within. ap (λ (x : GrantsHeld). x.reservation + x.priority) (h.servers s (omega (arith, within, h.together.books))).held ∙ left_at s within)
+      (λ s within. ap (λ (x : UnitsHeld). x.reservation + x.priority) (h.servers s (omega (arith, within, h.together.books))).held ∙ left_at s within)
 
   granted_is : sum_by (λ s. s.reservation + s.priority) new.servers.items ≡ sum_to scene.servers (λ s. sum_to (length scene.clients) (λ c. granted s c))
   granted_is =

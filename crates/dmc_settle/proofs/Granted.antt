@@ -5,11 +5,10 @@ use Rattle.std.specs.List.{AllByRecursion}
 use Rattle.std.proofs.lemmas.List.Sums.{sum_by-cons}
 use Rattle.dmc_types.specs.declared.config.PhaseType.{PhaseType}
 use Rattle.dmc_types.specs.declared.config.PhaseType.TheVariants.{Reservation, Priority}
-use Rattle.dmc_types.specs.declared.ids.ClientId.{ClientId}
 use Rattle.dmc_tag.specs.declared.event.Event.{Event}
 use Rattle.dmc_ledger.specs.Accounts.{total_of}
 use Rattle.dmc_ledger.specs.Bundles.{ClientSide, GrantHoldings}
-use Rattle.dmc_ledger.specs.Moves.{till_in}
+use Rattle.dmc_ledger.specs.Moves.{tills_in}
 use Rattle.dmc_book.specs.BookState.{PassState, WorkerSide, no_desk, no_unit}
 use Rattle.dmc_book.specs.Counts.{count, grant_in, grants_added, one_if, units_for}
 use Rattle.dmc_book.specs.Settling.{AreSettledDesks, IsOwn, left_in}
@@ -22,7 +21,7 @@ few_if : (b : Bool) → one_if b ≤ 1
 few_if true = omega arith
 few_if false = omega arith
 
-few_units : (client : ℕ) (phase : PhaseType) (grant : Option (ClientId × PhaseType)) → units_for client phase grant ≤ 1
+few_units : (client : ℕ) (phase : PhaseType) (grant : Option _) → units_for client phase grant ≤ 1
 few_units client phase None = omega arith
 few_units client phase (Some grant) = few_if _
 
@@ -33,22 +32,22 @@ few_counted client phase (e ∷ es) =
     let rest = few_counted client phase es in
     omega (arith, first, rest)
 
-none_in : (phase : PhaseType) → (till_in phase no_unit).amount ≡ 0
+none_in : (phase : PhaseType) → (tills_in phase no_unit).grants.amount ≡ 0
 none_in Reservation = refl
 none_in Priority = refl
 
 -- the units that are left in passes, desk by desk
 pub left_at_all : (phase : PhaseType) (workers : List WorkerSide) (desks : List ClientSide) (passes : List PassState) → AllByRecursion (IsOwn workers desks) passes
-    → sum_to (length desks) (λ k. left_in phase k passes) ≡ units_left phase passes
+    → sum_to (length desks) (λ k. (left_in phase k passes).grants) ≡ units_left phase passes
 left_at_all phase workers desks [] own = no_sum (length desks)
 left_at_all phase workers desks (p ∷ ps) own =
-    let f : GrantHoldings → ℕ = (λ u. (till_in phase u).amount) in
+    let f : GrantHoldings → ℕ = (λ u. (tills_in phase u).grants.amount) in
     let held : PassState → ℕ = (λ q. sum_by f q.units) in
     let here : sum_by f p.units ≡ sum_to (length desks) (λ k. f (get_or p.units k no_unit)) =
     sum_places_within f p.units no_unit (length desks) own.0.units.within (none_in phase) in
     let rest = left_at_all phase workers desks ps own.1 in
-    sum_plus (length desks) (λ k. f (get_or p.units k no_unit)) (λ k. left_in phase k ps)
-    ∙ ap (λ n. n + sum_to (length desks) (λ k. left_in phase k ps)) (sym here) ∙ ap (λ n. held p + n) rest ∙ sym (sum_by-cons held p ps)
+    sum_plus (length desks) (λ k. f (get_or p.units k no_unit)) (λ k. (left_in phase k ps).grants)
+    ∙ ap (λ n. n + sum_to (length desks) (λ k. (left_in phase k ps).grants)) (sym here) ∙ ap (λ n. held p + n) rest ∙ sym (sum_by-cons held p ps)
 
 module _ {T : Type 0} (es : List (Event T)) (passes : List PassState) (old new : List ClientSide) (h : AreSettledDesks es passes old new) where
   pub few_granted : length es ≤ 1073741824 → (k : ℕ) → k < length new → AreFewGrants (get_or new k no_desk)
@@ -57,8 +56,8 @@ module _ {T : Type 0} (es : List (Event T)) (passes : List PassState) (old new :
       let r = few_counted (get_or old k no_desk).client Reservation es in
       let p = few_counted (get_or old k no_desk).client Priority es in
       record {
-        reservation = omega (arith, few, r, d.reservations.total);
-        priority = omega (arith, few, p, d.priorities.total);
+        reservation = omega (arith, few, r, d.reservations.grants.total);
+        priority = omega (arith, few, p, d.priorities.grants.total);
       }
 
   same_sums : (f g : ClientSide → ℕ) → ((k : ℕ) → k < length old → f (get_or new k no_desk) ≡ g (get_or old k no_desk)) → sum_by f new ≡ sum_by g old
@@ -66,20 +65,20 @@ module _ {T : Type 0} (es : List (Event T)) (passes : List PassState) (old new :
       sum_places f new no_desk ∙ ap (λ n. sum_to n (λ k. f (get_or new k no_desk))) h.as_many
       ∙ same_sum (length old) (λ k. f (get_or new k no_desk)) (λ k. g (get_or old k no_desk)) each ∙ sym (sum_places g old no_desk)
 
-  held_sum : (f : ClientSide → ℕ) (phase : PhaseType) → ((k : ℕ) → k < length old → f (get_or new k no_desk) ≡ left_in phase k passes)
+  held_sum : (f : ClientSide → ℕ) (phase : PhaseType) → ((k : ℕ) → k < length old → f (get_or new k no_desk) ≡ (left_in phase k passes).grants)
       → (workers : List WorkerSide) → AllByRecursion (IsOwn workers old) passes → sum_by f new ≡ units_left phase passes
   held_sum f phase each workers own =
       sum_places f new no_desk ∙ ap (λ n. sum_to n (λ k. f (get_or new k no_desk))) h.as_many
-      ∙ same_sum (length old) (λ k. f (get_or new k no_desk)) (λ k. left_in phase k passes) each ∙ left_at_all phase workers old passes own
+      ∙ same_sum (length old) (λ k. f (get_or new k no_desk)) (λ k. (left_in phase k passes).grants) each ∙ left_at_all phase workers old passes own
 
   pub held_granted : (workers : List WorkerSide) → AllByRecursion (IsOwn workers old) passes → (granted_at new).held ≡ grants_left passes
   held_granted workers own =
-      let r = held_sum (λ d. d.books.reservation.gathered) Reservation (λ k l. (h.each k l).reservations.gathered) workers own in
-      let p = held_sum (λ d. d.books.priority.gathered) Priority (λ k l. (h.each k l).priorities.gathered) workers own in
+      let r = held_sum (λ d. d.books.reservation.grants.gathered) Reservation (λ k l. (h.each k l).reservations.grants.gathered) workers own in
+      let p = held_sum (λ d. d.books.priority.grants.gathered) Priority (λ k l. (h.each k l).priorities.grants.gathered) workers own in
       rw (r, p) refl
 
   pub reservations_granted : (granted_at new).reservation ≡ sum_by (λ d. count (grants_added d.client Reservation) es) old
-  reservations_granted = same_sums (λ d. total_of d.books.reservation) (λ d. count (grants_added d.client Reservation) es) (λ k l. (h.each k l).reservations.total)
+  reservations_granted = same_sums (λ d. total_of d.books.reservation.grants) (λ d. count (grants_added d.client Reservation) es) (λ k l. (h.each k l).reservations.grants.total)
 
   pub priorities_granted : (granted_at new).priority ≡ sum_by (λ d. count (grants_added d.client Priority) es) old
-  priorities_granted = same_sums (λ d. total_of d.books.priority) (λ d. count (grants_added d.client Priority) es) (λ k l. (h.each k l).priorities.total)
+  priorities_granted = same_sums (λ d. total_of d.books.priority.grants) (λ d. count (grants_added d.client Priority) es) (λ k l. (h.each k l).priorities.grants.total)

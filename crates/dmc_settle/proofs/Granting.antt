@@ -11,10 +11,10 @@ use Rattle.dmc_settle.specs.declared.servers.Granted.{Granted}
 pub granted_more : (ds : List ClientSide) (d : ClientSide) → granted_at (ds ++ d ∷ []) ≡ with_desk (granted_at ds) d
 granted_more ds d =
     rw (
-      sum_by_push (λ (x : ClientSide). total_of x.books.reservation) ds d,
-      sum_by_push (λ (x : ClientSide). total_of x.books.priority) ds d,
-      sum_by_push (λ (x : ClientSide). x.books.reservation.gathered) ds d,
-      sum_by_push (λ (x : ClientSide). x.books.priority.gathered) ds d,
+      sum_by_push (λ (x : ClientSide). total_of x.books.reservation.grants) ds d,
+      sum_by_push (λ (x : ClientSide). total_of x.books.priority.grants) ds d,
+      sum_by_push (λ (x : ClientSide). x.books.reservation.grants.gathered) ds d,
+      sum_by_push (λ (x : ClientSide). x.books.priority.grants.gathered) ds d,
     ) refl
 
 -- one desk more of a list

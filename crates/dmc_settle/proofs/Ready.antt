@@ -1,20 +1,32 @@
 -- Parts of one cluster are ready to be settled: the servers' first, then the clients'.
 use Rattle.std.proofs.Common.{◌≡◌, ℕ, ◌<◌, ◌≤◌, List, [], Some, None, length, get_or, slice_get, sym, ap, ◌∙◌, arith}
 use Rattle.std.proofs.lemmas.Option.{slice_get-get_or, slice_get_within}
-use Rattle.dmc_ledger.specs.Bundles.{ClientSide, ServerSide}
+use Rattle.dmc_types.specs.declared.config.PhaseType.{PhaseType}
+use Rattle.dmc_ledger.specs.Bundles.{ClientSide, ServerSide, PhaseAccounts, PhaseHoldings}
 use Rattle.dmc_tlock.specs.BookState.{no_side}
 use Rattle.dmc_book.specs.BookState.{no_desk}
-use Rattle.dmc_book.specs.Settling.{AreSettledDesks, IsSettledDesk}
+use Rattle.dmc_book.specs.Settling.{AreSettledDesks, IsSettledDesk, IsSettledPhase}
+use Rattle.dmc_book.specs.declared.settled.Amounts.{Amounts}
 use Rattle.dmc_book.specs.BookState.{PassState}
 use Rattle.dmc_tag.specs.declared.event.Event.{Event}
 use Rattle.dmc_scene.specs.SceneValue.{SceneValue, ClientValue}
-use Rattle.dmc_settle.specs.internal.Filled.{IsLastPair, IsReadyClient, IsReadyServer}
+use Rattle.dmc_settle.specs.internal.Filled.{IsLastPair, IsLastPhase, IsReadyClient, IsReadyServer}
 use Rattle.dmc_settle.specs.internal.Places.{desk_of, no_book, no_tracker}
-use Rattle.dmc_settle.specs.Left.{AreTogether, ArePaired, IsServerPart, IsClientPart, Left}
+use Rattle.dmc_settle.specs.Left.{AreTogether, ArePaired, ArePhaseTillsOf, IsServerPart, IsClientPart, Left}
 use Rattle.dmc_settle.proofs.Lists.{alike_long}
 
 abbrev pub no_client : ClientValue
-no_client = record { id = record { 0 = 0 }; info = record { reservation = None; weight = 0; limit = None }; requests = 0; window = 0 }
+no_client = record { id = record { 0 = 0 }; info = record { reservation = None; weight = 0; limit = None }; requests = 0; window = 0; costs = None }
+
+-- the books of a phase, once their server's passes are gathered
+module _ {T : Type 0} {client : ℕ} {phase : PhaseType} {history : List (Event T)} {left : Amounts} where
+  phase_tills_of : (tills : PhaseHoldings) (old new : PhaseAccounts) → ArePhaseTillsOf tills old → IsSettledPhase client phase history left old new
+      → ArePhaseTillsOf tills new
+  phase_tills_of tills old new h now = record { grants = h.grants ∙ sym now.grants.number; cost = h.cost ∙ sym now.cost.number }
+
+  last_phase : (tills : PhaseHoldings) (old new : PhaseAccounts) → ArePhaseTillsOf tills old → IsSettledPhase client phase history left old new
+      → IsLastPhase new tills
+  last_phase tills old new h now = record { tills_of = phase_tills_of tills old new h now; grants = now.grants.open_tills; cost = now.cost.open_tills }
 
 module _ {T : Type 0} (scene : SceneValue) (r : Left T) (h : AreTogether scene r) where
   pub server_at : (s : ℕ) → s < scene.servers → IsServerPart scene s (get_or r.books s no_book) (get_or r.worker_passes s [])
@@ -40,11 +52,11 @@ module _ {T : Type 0} (scene : SceneValue) (r : Left T) (h : AreTogether scene r
       stamps = ap (λ (x : ClientSide). x.held.stamps.number) now.its ∙ p.stamps;
       delta = ap (λ (x : ClientSide). x.held.delta.number) now.its ∙ p.delta;
       rho = ap (λ (x : ClientSide). x.held.rho.number) now.its ∙ p.rho;
-      reservation = p.reservation ∙ sym now.reservations.number;
-      priority = p.priority ∙ sym now.priorities.number;
+      reservation = phase_tills_of t.held.reservation old.books.reservation new.books.reservation p.reservation now.reservations;
+      priority = phase_tills_of t.held.priority old.books.priority new.books.priority p.priority now.priorities;
     };
-    reservation = now.reservations.open_tills;
-    priority = now.priorities.open_tills;
+    reservation = last_phase t.held.reservation old.books.reservation new.books.reservation p.reservation now.reservations;
+    priority = last_phase t.held.priority old.books.priority new.books.priority p.priority now.priorities;
   }
 
   pub ready_clients : (desks : List (List ClientSide)) → length desks ≡ length r.books

@@ -1,5 +1,5 @@
 -- What the report of a settled cluster says.
-use Rattle.std.proofs.Common.{◌≡◌, ℕ, ◌+◌, ◌<◌, ◌≤◌, List, [], Some, length, map, get_or, slice_get, refl, sym, ap, ◌∙◌, subst, arith}
+use Rattle.std.proofs.Common.{◌≡◌, ℕ, ◌<◌, ◌≤◌, List, [], Some, length, map, get_or, slice_get, refl, sym, ap, ◌∙◌, subst, arith}
 use Rattle.std.specs.Global.{Vec}
 use Rattle.std.specs.Prelude.{sum_by}
 use Rattle.std.proofs.lemmas.List.{length-map}
@@ -12,14 +12,12 @@ use Rattle.dmc_types.specs.declared.config.Counting.TheVariants.{All, Others}
 use Rattle.dmc_tag.specs.Tag.{Tagging}
 use Rattle.dmc_tag.specs.declared.event.Event.{Event}
 use Rattle.dmc_tracker.specs.declared.event.TrackerEvent.{TrackerEvent}
-use Rattle.dmc_tracker.specs.TrackerList.{completions, sent, stamps}
+use Rattle.dmc_tracker.specs.TrackerList.{completions, sent}
 use Rattle.dmc_tracker.specs.Numbers.{ServerNumbers}
 use Rattle.dmc_tracker.proofs.ForCallers.{completions-by_server}
-use Rattle.dmc_ledger.specs.Bundles.{ClientSide, StampHoldings}
+use Rattle.dmc_ledger.specs.Bundles.{ClientSide}
 use Rattle.dmc_tlock.specs.BookState as tracker_book
-use Rattle.dmc_tlock.specs.BookState.{no_tills}
 use Rattle.dmc_tlock.specs.Consistent.{IsConsistent, due}
-use Rattle.dmc_tlock.specs.declared.settled.StampsHeld.{StampsHeld}
 use Rattle.dmc_book.specs.BookState.{BookState, no_desk}
 use Rattle.dmc_book.specs.Counts.{count, stamps_added, delta_added}
 use Rattle.dmc_scene.specs.SceneValue.{SceneValue, ClientValue}
@@ -27,16 +25,16 @@ use Rattle.dmc_settle.specs.internal.Filled as filled
 use Rattle.dmc_settle.specs.internal.Filled.{ClientNumbers, client_numbers, no_client_numbers, no_server_numbers, server_numbers, grants_left}
 use Rattle.dmc_settle.specs.internal.Places.{no_book, no_tracker}
 use Rattle.dmc_settle.specs.Left.{Left, stops_of}
-use Rattle.dmc_settle.specs.Reports.{IsServerReport, IsClientReport, IsReportOf, delta_bound, stamps_left}
+use Rattle.dmc_settle.specs.Reports.{AreBounded, IsServerReport, IsClientReport, IsReportOf, all_responses, delta_bound, stamps_left}
 use Rattle.dmc_settle.specs.declared.report.ClientReport.{ClientReport}
 use Rattle.dmc_settle.specs.declared.report.ServerReport.{ServerReport}
 use Rattle.dmc_settle.specs.declared.report.StopCause.{StopCause}
 use Rattle.dmc_settle.specs.declared.report.ClusterReport.{ClusterReport}
 use Rattle.dmc_settle.proofs.Balance.{sum_seen}
-use Rattle.dmc_settle.proofs.Circles.{IsSettledCluster, circle_at, its_desk, its_tracker}
+use Rattle.dmc_settle.proofs.Circles.{IsSettledCluster, circle_at, its_desk}
 use Rattle.dmc_settle.proofs.Lists.{alike_at, alike_long, alike_places, seen_at}
-use Rattle.dmc_settle.proofs.Ready.{client_at, desks_long, server_at}
-use Rattle.dmc_settle.proofs.Sums.{sum_to, sum_places, same_sum, one_of_sum}
+use Rattle.dmc_settle.proofs.Ready.{client_at, desks_long, no_client, server_at}
+use Rattle.dmc_settle.proofs.Sums.{sum_to, sum_places, same_sum}
 
 -- what is sent to a server is at most what is due there
 sent_within_due : (b : tracker_book.BookState) (s : ServerId) → s.0 < length b.desks → IsConsistent b → (sent s b.events).delta ≤ (due b.tracker.counting s b.events).delta
@@ -45,20 +43,12 @@ sent_within_due b s within h =
     let sum = ap (λ (x : Counts). x.delta) (h.balanced s within) in
     omega (arith, here, sum)
 
-within_bound : (counting : Counting) (c : ClientReport) (n : ℕ) (s : ServerId) (events : List TrackerEvent) → n ≤ (due counting s events).delta
-    → c.completed ≡ (completions events).delta → stamps s events ≤ c.sent + c.held.stamps → n ≤ delta_bound counting c
-within_bound All c n s events small completed few = omega (arith, small, completed)
-within_bound Others c n s events small completed few =
+within_bound : (counting : Counting) (n : ℕ) (s : ServerId) (events : List TrackerEvent) → n ≤ (due counting s events).delta
+    → n ≤ delta_bound counting s events
+within_bound All n s events small = small
+within_bound Others n s events small =
     let parts = ap (λ (x : Counts). x.delta) (completions-by_server events s) in
-    omega (arith, small, completed, few, parts)
-
--- one of the tills that are left, and all
-one_left : (pass : List StampHoldings) (s : ℕ) → s < length pass → (get_or pass s no_tills).stamps.amount ≤ (stamps_left pass).stamps
-one_left pass s within =
-    let f : StampHoldings → ℕ = (λ t. t.stamps.amount) in
-    let one = one_of_sum (length pass) (λ k. f (get_or pass k no_tills)) s within in
-    let all = sum_places f pass no_tills in
-    omega (arith, one, all)
+    omega (arith, small, parts)
 
 -- two reports whose rows name the same stops
 pub same_stops : {T : Type 0} (old new : ClusterReport T)
@@ -144,40 +134,34 @@ module _ {T : Type 0} (ops : Tagging T) (scene : SceneValue) (r : Left T) (desks
       (λ s within. ap f (h.servers s (omega (arith, within, h.together.books))).events)
 
   pub client_report : (k : ℕ) (client : ClientValue) (c : ClientReport) → slice_get scene.clients k ≡ Some client → slice_get new.clients.items k ≡ Some c
-      → IsClientReport scene new.servers.items client c
+      → IsClientReport new.servers.items client c
   client_report k client c at at_row =
       let in_clients = slice_get_within scene.clients k client at in
       let in_rows = slice_get_within new.clients.items k c at_row in
-      let in_trackers : k < length r.trackers = omega (arith, in_clients, h.together.trackers) in
       let n = client_numbers_of k c at_row in
-      let tracker = get_or r.trackers k no_tracker in
-      let pass = get_or r.client_passes k [] in
       let sent_all = sent_is k client at in
-      let part = client_at scene r h.together k client at in
       record {
         its_client = ap (λ (x : ClientReport). x.client) (sym (get_or_from_slice_get new.clients.items k c c at_row))
             ∙ alike_at (λ (x : ClientReport). x.client) (λ (x : ClientValue). x.id) new.clients.items scene.clients k c client in_rows in_clients clients_are
             ∙ ap (λ (x : ClientValue). x.id) (get_or_from_slice_get scene.clients k client client at);
         sent = n.sent ∙ sent_all ∙ sym (counted_is (count (stamps_added client.id.0)));
-        delta = λ s row at_server. (
-            let in_servers : s < scene.servers = (let w = slice_get_within new.servers.items s row at_server in omega (arith, w, servers_long)) in
-            let id : ServerId = record { 0 = s } in
-            let circle = circle_at ops scene r desks old new h k s in_clients in_servers in
-            let consistent = h.consistent k in_trackers in
-            let same = its_tracker ops scene r desks old new h k client at in
-            let due_all = sent_within_due tracker id (omega (arith, in_servers, part.desks)) consistent in
-            let one = one_of_sum scene.servers (λ j. count (stamps_added client.id.0) (get_or r.books j no_book).history) s in_servers in
-            let left = one_left pass s (omega (arith, in_servers, part.desks, part.own.as_many)) in
-            let held = ap (λ (x : StampsHeld). x.stamps) n.held in
-            let stamped : count (stamps_added tracker.client) (get_or r.books s no_book).history ≡ count (stamps_added client.id.0) (get_or r.books s no_book).history =
-            ap (λ m. count (stamps_added m) (get_or r.books s no_book).history) same in
-            let few : stamps id tracker.events ≤ c.sent + c.held.stamps = omega (arith, circle.stamps, stamped, one, left, held, n.sent, sent_all) in
-            let counted : count (delta_added client.id.0) row.history.events ≡ count (delta_added tracker.client) (get_or r.books s no_book).history =
-            ap (count (delta_added client.id.0)) (events_of s row at_server) ∙ ap (λ m. count (delta_added m) (get_or r.books s no_book).history) (sym same) in
-            let small : count (delta_added client.id.0) row.history.events ≤ (due tracker.tracker.counting id tracker.events).delta = omega (arith, counted, circle.delta, due_all) in
-            subst (λ (w : Counting). count (delta_added client.id.0) row.history.events ≤ delta_bound w c) part.counting
-            (within_bound tracker.tracker.counting c (count (delta_added client.id.0) row.history.events) id tracker.events small n.completed few));
       }
+
+  -- the deltas of a client's accepted adds at a server
+  bounded : AreBounded r
+  bounded c s queue book at_queue at_book =
+      let in_clients : c < length scene.clients = (let w = slice_get_within r.trackers c book at_book in omega (arith, w, h.together.trackers)) in
+      let in_servers : s < scene.servers = (let w = slice_get_within r.books s queue at_queue in omega (arith, w, h.together.books)) in
+      let tracker = get_or r.trackers c no_tracker in
+      let id : ServerId = record { 0 = s } in
+      let part = client_at scene r h.together c _ (slice_get-get_or scene.clients c no_client in_clients) in
+      let circle = circle_at ops scene r desks old new h c s in_clients in_servers in
+      let due_all = sent_within_due tracker id (omega (arith, in_servers, part.desks)) (h.consistent c (omega (arith, in_clients, h.together.trackers))) in
+      let small : count (delta_added tracker.client) (get_or r.books s no_book).history ≤ (due tracker.tracker.counting id tracker.events).delta = omega (arith, circle.delta, due_all) in
+      rw (
+        get_or_from_slice_get r.books s queue no_book at_queue,
+        get_or_from_slice_get r.trackers c book no_tracker at_book,
+      ) at (within_bound tracker.tracker.counting (count (delta_added tracker.client) (get_or r.books s no_book).history) id tracker.events small)
 
   -- the report is of these parts
   pub report_of : stops_of new ≡ r.stops → IsReportOf r new
@@ -193,8 +177,11 @@ module _ {T : Type 0} (ops : Tagging T) (scene : SceneValue) (r : Left T) (desks
             ∙ alike_places (λ (n : filled.ServerNumbers T). n.events) (λ (b : BookState T). b.history) rows r.books no_server_numbers no_book rows_long
             (λ k within. (h.servers k (omega (arith, within, rows_long))).events);
         completed = sym (map-map (λ (n : ClientNumbers). n.completed) read_client new.clients.items)
-            ∙ alike_places (λ (n : ClientNumbers). n.completed) (λ (t : tracker_book.BookState). (completions t.events).delta) client_rows r.trackers no_client_numbers no_tracker client_rows_long
+            ∙ alike_places (λ (n : ClientNumbers). n.completed) (λ (t : tracker_book.BookState). all_responses (length t.desks) t.events) client_rows r.trackers no_client_numbers no_tracker client_rows_long
             (λ k within. (h.clients k (omega (arith, within, client_rows_long))).completed);
+        cost = sym (map-map (λ (n : ClientNumbers). n.cost) read_client new.clients.items)
+            ∙ alike_places (λ (n : ClientNumbers). n.cost) (λ (t : tracker_book.BookState). (completions t.events).delta) client_rows r.trackers no_client_numbers no_tracker client_rows_long
+            (λ k within. (h.clients k (omega (arith, within, client_rows_long))).cost);
         stamps_left = sym (map-map (λ (n : ClientNumbers). n.held) read_client new.clients.items)
             ∙ alike_places (λ (n : ClientNumbers). n.held) stamps_left client_rows r.client_passes no_client_numbers [] (client_rows_long ∙ h.together.trackers ∙ sym h.together.client_passes)
             (λ k within. (h.clients k (omega (arith, within, client_rows_long))).held);
@@ -202,4 +189,5 @@ module _ {T : Type 0} (ops : Tagging T) (scene : SceneValue) (r : Left T) (desks
             ∙ alike_places (λ (n : filled.ServerNumbers T). n.held) grants_left rows r.worker_passes no_server_numbers [] (rows_long ∙ h.together.books ∙ sym h.together.worker_passes)
             (λ k within. (h.servers k (omega (arith, within, rows_long))).held);
         stops = stops;
+        deltas = bounded;
       }

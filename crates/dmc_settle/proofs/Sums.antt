@@ -2,6 +2,8 @@
 use Rattle.std.proofs.Common.{◌≡◌, ℕ, zero, suc, ◌+◌, ◌<◌, ◌≤◌, List, [], ◌∷◌, length, get_or, refl, sym, ap, ◌∙◌, arith}
 use Rattle.std.specs.Prelude.{sum_by}
 use Rattle.std.proofs.lemmas.List.Sums.{sum_by-cons}
+use Rattle.std.proofs.lemmas.List.FromFn.{get_or-range_with_len, length-range_with_len}
+use Rattle.std.specs.List.{range_with_len}
 
 -- of the places below n
 abbrev pub sum_to : ℕ → (ℕ → ℕ) → ℕ
@@ -40,8 +42,10 @@ sum_grid (suc n) m f =
     ap (λ x. sum_to m (f 0) + x) (sum_grid n m (λ i. f (suc i)))
     ∙ sym (sum_plus m (f 0) (λ j. sum_to n (λ i. f (suc i) j)))
 
--- one of them, and all
-pub one_of_sum : (n : ℕ) (f : ℕ → ℕ) (k : ℕ) → k < n → f k ≤ sum_to n f
-one_of_sum zero f k l = absurd (omega (arith, l))
-one_of_sum (suc n) f zero l = omega arith
-one_of_sum (suc n) f (suc k) l = let rest = one_of_sum n (λ j. f (suc j)) k (omega (arith, l)) in omega (arith, rest)
+-- over the numbers below n
+pub sum_range : (f : ℕ → ℕ) (n : ℕ) → sum_by f (range_with_len 0 n) ≡ sum_to n f
+sum_range f n =
+    let ns = range_with_len 0 n in
+    sum_places f ns 0 ∙ ap (λ m. sum_to m (λ k. f (get_or ns k 0))) (length-range_with_len 0 n)
+    ∙ same_sum n (λ k. f (get_or ns k 0)) f
+    (λ k within. (let at : get_or ns k 0 ≡ k = omega (arith, get_or-range_with_len 0 n k 0 within) in ap f at))

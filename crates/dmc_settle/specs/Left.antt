@@ -1,7 +1,7 @@
 -- What a cluster's threads left, and when its parts are those of one cluster.
 use Rattle.std.specs.Prelude.{◌≡◌, ℕ, List, Option, Some, length, map, slice_get}
 use Rattle.dmc_ledger.specs.Accounts.{Account, Holding}
-use Rattle.dmc_ledger.specs.Bundles.{ClientSide, ServerSide, StampHoldings}
+use Rattle.dmc_ledger.specs.Bundles.{ClientSide, ServerSide, StampHoldings, PhaseHoldings, PhaseAccounts}
 use Rattle.dmc_tlock.specs.BookState as tracker_book
 use Rattle.dmc_tlock.specs.Settling as tracker_settling
 use Rattle.dmc_book.specs.BookState.{BookState, PassState, pass_state}
@@ -31,13 +31,18 @@ pub record Left (T : Type 0) : Type 0 where
 abbrev pub IsTillOf : Holding → Account → Type 0
 IsTillOf till book = till.number ≡ book.number
 
+-- both tills of a phase are of its books
+pub record ArePhaseTillsOf (tills : PhaseHoldings) (books : PhaseAccounts) : Type 0 where
+  pub grants : IsTillOf tills.grants books.grants
+  pub cost : IsTillOf tills.cost books.cost
+
 -- the queue's desk of a client and the tracker's desk of a server hold tills of each other's books
 pub record ArePaired (queue : ClientSide) (tracker : ServerSide) : Type 0 where
   pub stamps : IsTillOf queue.held.stamps tracker.books.stamps
   pub delta : IsTillOf queue.held.delta tracker.books.delta
   pub rho : IsTillOf queue.held.rho tracker.books.rho
-  pub reservation : IsTillOf tracker.held.reservation queue.books.reservation
-  pub priority : IsTillOf tracker.held.priority queue.books.priority
+  pub reservation : ArePhaseTillsOf tracker.held.reservation queue.books.reservation
+  pub priority : ArePhaseTillsOf tracker.held.priority queue.books.priority
 
 -- a server's book, which released no event: as the scene sets it up, with a desk for each client in the scene's order; and the
 -- passes are its own

@@ -1,11 +1,11 @@
 //! Whether parts are those of one cluster.
 ghost use Rattle.std.specs.Prelude.{◌≡◌, ◌≤◌, ◌↔◌, ℕ, Some, length, map, slice_get, IsTrue};
-ghost use Rattle.dmc_ledger.specs.Bundles.{client_side, server_side};
+ghost use Rattle.dmc_ledger.specs.Bundles.{client_side, phase_accounts, phase_holdings, server_side};
 ghost use Rattle.dmc_book.specs.BookState.{pass_state};
 ghost use Rattle.dmc_settle.specs.internal.Checks.{AreServerParts, AreClientParts, IsPairAt, ArePairsOf, ArePairs};
 ghost use Rattle.dmc_settle.specs.internal.Places.{pass_states};
 ghost use Rattle.dmc_types.specs.Limits.{max_scene_clients, max_servers};
-ghost use Rattle.dmc_settle.specs.Left.{ArePaired, AreTogether, IsClientPart, IsServerPart, IsTillOf, left_of, stops_of};
+ghost use Rattle.dmc_settle.specs.Left.{ArePaired, ArePhaseTillsOf, AreTogether, IsClientPart, IsServerPart, IsTillOf, left_of, stops_of};
 ghost use Rattle.dmc_settle.specs.Reports.{AreRows};
 ghost use Rattle.dmc_settle.specs.declared.report.ServerReport.{ServerReport};
 
@@ -15,6 +15,7 @@ use dmc_book::book::QueueBook;
 use dmc_book::pass::WorkerPass;
 use dmc_index::index::Indexes;
 use dmc_ledger::book::Book;
+use dmc_ledger::bundle::{PhaseBooks, PhaseTills};
 use dmc_ledger::desk::{ClientDesk, ServerDesk};
 use dmc_ledger::setup::Setup;
 use dmc_ledger::till::Till;
@@ -117,6 +118,13 @@ fn is_till_of<S: Setup>(till: &Till<S>, book: &Book<S>) -> bool
     till.number() == book.number()
 }
 
+/// Whether both tills of a phase are of its books.
+fn are_phase_tills_of<S: Setup>(tills: &PhaseTills<S>, books: &PhaseBooks<S>) -> bool
+    ensures { IsTrue result ↔ ArePhaseTillsOf (phase_holdings tills.now) (phase_accounts books.now) }
+{
+    is_till_of(&tills.grants, &books.grants) && is_till_of(&tills.cost, &books.cost)
+}
+
 /// Whether the two desks hold tills of each other's books.
 fn are_paired<S: Setup>(desk: &ClientDesk<S>, side: &ServerDesk<S>) -> bool
     ensures { IsTrue result ↔ ArePaired (client_side desk.now) (server_side side.now) }
@@ -124,8 +132,8 @@ fn are_paired<S: Setup>(desk: &ClientDesk<S>, side: &ServerDesk<S>) -> bool
     is_till_of(&desk.held.stamps, &side.books.stamps)
         && is_till_of(&desk.held.delta, &side.books.delta)
         && is_till_of(&desk.held.rho, &side.books.rho)
-        && is_till_of(&side.held.reservation, &desk.books.reservation)
-        && is_till_of(&side.held.priority, &desk.books.priority)
+        && are_phase_tills_of(&side.held.reservation, &desk.books.reservation)
+        && are_phase_tills_of(&side.held.priority, &desk.books.priority)
 }
 
 /// Whether the desks of a client and a server are of one pair, if both are there.

@@ -1,14 +1,15 @@
 //! Settling the clients' tracker books.
 ghost use Rattle.std.specs.Prelude.{◌≡◌, ◌≤◌, ◌<◌, ◌^◌, ℕ, [], length, map, slice_index_or, sum_by};
 ghost use Rattle.dmc_types.specs.Limits.{max_servers};
-ghost use Rattle.dmc_ledger.specs.Bundles.{client_side, server_side};
+ghost use Rattle.dmc_ledger.specs.Bundles.{client_side, phase_accounts, phase_holdings, server_side};
 ghost use Rattle.dmc_tlock.specs.BookState.{no_side};
-ghost use Rattle.dmc_tlock.specs.Consistent.{IsConsistent, responded};
-ghost use Rattle.dmc_settle.specs.internal.Filled.{AreBalanced, AreClientNumbers, AreHeldWithin, IsAudited, IsClosing, IsReadyClient, all_held, client_numbers, no_client_numbers, stamps_taken, with_held, with_pair};
+ghost use Rattle.dmc_tlock.specs.Consistent.{IsConsistent};
+ghost use Rattle.dmc_settle.specs.internal.Filled.{AreBalanced, AreClientNumbers, AreLeftWithin, IsAudited, IsAuditedPhase, IsClosing, IsHeldWithin, IsLastPhase, IsReadyClient, all_held, client_numbers, no_client_numbers, responses_held, stamps_taken, with_held, with_pair};
 ghost use Rattle.dmc_settle.specs.internal.Places as places;
 ghost use Rattle.dmc_settle.specs.internal.Places.{desk_of, no_held, no_tracker};
 
-use crate::report::ClientReport;
+use crate::report::{ClientReport, StampsLeft};
+use dmc_ledger::bundle::{PhaseBooks, PhaseTills};
 use dmc_ledger::desk::{ClientDesk, ServerDesk};
 use dmc_ledger::setup::Setup;
 use dmc_tlock::book::TrackerBook;
@@ -30,8 +31,17 @@ fn audit_pair<S: Setup>(desk: &ClientDesk<S>, side: &ServerDesk<S>)
     side.books.stamps.audit(&desk.held.stamps);
     side.books.delta.audit(&desk.held.delta);
     side.books.rho.audit(&desk.held.rho);
-    desk.books.reservation.audit(&side.held.reservation);
-    desk.books.priority.audit(&side.held.priority);
+    audit_phase(&desk.books.reservation, &side.held.reservation);
+    audit_phase(&desk.books.priority, &side.held.priority);
+}
+
+/// The same of the books of a phase.
+fn audit_phase<S: Setup>(books: &PhaseBooks<S>, held: &PhaseTills<S>)
+    requires { IsLastPhase (phase_accounts books.now) (phase_holdings held.now) }
+    ensures { IsAuditedPhase (phase_accounts books.now) (phase_holdings held.now) }
+{
+    books.grants.audit(&held.grants);
+    books.cost.audit(&held.cost);
 }
 
 /// Audits a pair, and adds what its held tills hold.
@@ -43,10 +53,11 @@ fn add_pair<S: Setup>(taken: TakenIn, desk: &ClientDesk<S>, side: &ServerDesk<S>
     ensures audited { IsAudited (client_side desk.now) (server_side side.now) }
 {
     audit_pair(desk, side);
-    let responded = side.held.reservation.amount() + side.held.priority.amount();
+    let reservation = side.held.reservation.grants.amount();
+    let priority = side.held.priority.grants.amount();
     TakenIn {
         sent: taken.sent + desk.held.stamps.amount(),
-        completed: taken.completed + responded,
+        completed: taken.completed + reservation + priority,
     }
 }
 
@@ -64,7 +75,7 @@ fn audit_pairs<S: Setup>(
     ensures audited { (s : ℕ) → s < length desks.now
         → IsAudited (desk_of (map places.sides desks.now) s client) (slice_index_or (map server_side sides.now) s no_side) }
     ensures sent { result.sent ≡ stamps_taken (map places.sides desks.now) client }
-    ensures completed { result.completed ≡ sum_by responded (map server_side sides.now) }
+    ensures completed { result.completed ≡ sum_by responses_held (map server_side sides.now) }
 {
     let mut taken = TakenIn {
         sent: 0,
@@ -77,25 +88,25 @@ fn audit_pairs<S: Setup>(
 }
 
 /// Adds what was left for a server.
-fn add_held(sum: StampsHeld, left: StampsHeld) -> StampsHeld
-    requires left { AreHeldWithin (2 ^ 31) left }
-    requires fits { AreHeldWithin (2 ^ 40) sum }
+fn add_held(sum: StampsLeft, left: StampsHeld) -> StampsLeft
+    requires left { IsHeldWithin left }
+    requires fits { AreLeftWithin sum }
     ensures { result ≡ with_held sum left }
 {
-    StampsHeld {
+    StampsLeft {
         stamps: sum.stamps + left.stamps,
-        delta: sum.delta + left.delta,
-        rho: sum.rho + left.rho,
+        delta: sum.delta + u128::from(left.delta),
+        rho: sum.rho + u128::from(left.rho),
     }
 }
 
 /// Sums what was left in a pass for each server.
-fn sum_held(held: &[StampsHeld]) -> StampsHeld
+fn sum_held(held: &[StampsHeld]) -> StampsLeft
     requires few { length held.now ≤ max_servers }
-    requires each { (s : ℕ) → s < length held.now → AreHeldWithin (2 ^ 31) (slice_index_or held.now s no_held) }
+    requires each { (s : ℕ) → s < length held.now → IsHeldWithin (slice_index_or held.now s no_held) }
     ensures { result ≡ all_held held.now }
 {
-    let mut sum = StampsHeld::default();
+    let mut sum = StampsLeft::default();
     for left in held {
         sum = add_held(sum, *left);
     }
@@ -119,12 +130,14 @@ fn settle_client<S: Setup>(
     ensures failed { row.new.failed ≡ row.old.failed }
     ensures stop { row.new.stop ≡ row.old.stop }
 {
+    let (cost, _) = tracker.completions();
     let Ok(settled) = tracker.settle(pass) else {
         unreachable!()
     };
     let taken = audit_pairs(client, desks, &settled.desks);
     row.sent = taken.sent;
     row.completed = taken.completed;
+    row.cost = cost;
     row.held = sum_held(&settled.held);
 }
 

@@ -1,9 +1,7 @@
 //! What a run of a cluster reports.
 
-use dmc_book::settled::GrantsHeld;
 use dmc_queue_history::history::EventHistory;
 use dmc_tag::tag::Tag;
-use dmc_tlock::settled::StampsHeld;
 use dmc_types::ids::{ClientId, ServerId};
 use dmc_types::refusal::Refusal;
 
@@ -28,6 +26,14 @@ pub enum StopCause {
     Stray,
 }
 
+/// The stamps that were left in a client's pass over all servers, with their deltas and rhos.
+#[derive(Clone, Copy, Debug, Default, PartialEq, Eq)]
+pub struct StampsLeft {
+    pub stamps: u64,
+    pub delta: u128,
+    pub rho: u128,
+}
+
 /// What a client did, in numbers of requests, over all servers.
 #[derive(Clone, Copy, Debug, PartialEq, Eq)]
 pub struct ClientReport {
@@ -36,12 +42,21 @@ pub struct ClientReport {
     pub sent: u64,
     /// Those whose response its tracker counted.
     pub completed: u64,
+    /// What the completed ones cost.
+    pub cost: u64,
     /// Those for which the service returned a fault.
     pub failed: u64,
     /// The stamps that were left in its pass, with their deltas and rhos.
-    pub held: StampsHeld,
+    pub held: StampsLeft,
     /// Why its worker stopped, if it did.
     pub stop: Option<StopCause>,
+}
+
+/// The units of grants that were left in the passes of a server's workers, in each phase.
+#[derive(Clone, Copy, Debug, Default, PartialEq, Eq)]
+pub struct UnitsHeld {
+    pub reservation: u64,
+    pub priority: u64,
 }
 
 /// What a server did, in numbers of requests.
@@ -55,7 +70,7 @@ pub struct ServerReport<T: Tag> {
     /// Those that were queued in the end.
     pub left: u32,
     /// The units of grants that were left in its workers' passes: granted, and not responded.
-    pub held: GrantsHeld,
+    pub held: UnitsHeld,
     /// Its queue's history, in order.
     pub history: EventHistory<T>,
     /// Why its workers stopped, those that did.

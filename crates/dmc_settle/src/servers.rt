@@ -7,10 +7,9 @@ ghost use Rattle.dmc_book.specs.Settling.{AreSettledDesks};
 ghost use Rattle.dmc_settle.specs.internal.Filled.{AreFewGrants, AreServerNumbers, AreWithin, IsReadyServer, granted_at, no_server_numbers, server_numbers, with_desk};
 ghost use Rattle.dmc_settle.specs.internal.Places.{no_book, pass_states, sides};
 
-use crate::report::ServerReport;
+use crate::report::{ServerReport, UnitsHeld};
 use dmc_book::book::QueueBook;
 use dmc_book::pass::WorkerPass;
-use dmc_book::settled::GrantsHeld;
 use dmc_index::index::Indexes;
 use dmc_ledger::desk::ClientDesk;
 use dmc_ledger::setup::Setup;
@@ -23,10 +22,10 @@ use std::mem::replace;
 pub(crate) struct Granted {
     reservation: u64,
     priority: u64,
-    held: GrantsHeld,
+    held: UnitsHeld,
 }
 
-/// Adds what the grant books of a desk total, and what they have gathered.
+/// Adds how many grants the books of a desk total, and how many they have gathered.
 fn add_desk<S: Setup>(granted: Granted, desk: &ClientDesk<S>) -> Granted
     requires few { AreFewGrants (client_side desk.now) }
     requires fits { AreWithin (2 ^ 40) granted }
@@ -34,16 +33,16 @@ fn add_desk<S: Setup>(granted: Granted, desk: &ClientDesk<S>) -> Granted
 {
     let books = &desk.books;
     Granted {
-        reservation: granted.reservation + books.reservation.total(),
-        priority: granted.priority + books.priority.total(),
-        held: GrantsHeld {
-            reservation: granted.held.reservation + books.reservation.gathered(),
-            priority: granted.held.priority + books.priority.gathered(),
+        reservation: granted.reservation + books.reservation.grants.total(),
+        priority: granted.priority + books.priority.grants.total(),
+        held: UnitsHeld {
+            reservation: granted.held.reservation + books.reservation.grants.gathered(),
+            priority: granted.held.priority + books.priority.grants.gathered(),
         },
     }
 }
 
-/// Sums what the grant books of desks total, and what they have gathered.
+/// Sums how many grants the books of desks total, and how many they have gathered.
 fn sum_grants<S: Setup>(desks: &[ClientDesk<S>]) -> Granted
     requires few { length desks.now ≤ max_scene_clients }
     requires few_grants { (k : ℕ) → k < length desks.now → AreFewGrants (slice_index_or (map client_side desks.now) k no_desk) }
@@ -52,7 +51,7 @@ fn sum_grants<S: Setup>(desks: &[ClientDesk<S>]) -> Granted
     let mut granted = Granted {
         reservation: 0,
         priority: 0,
-        held: GrantsHeld::default(),
+        held: UnitsHeld::default(),
     };
     for desk in desks {
         granted = add_desk(granted, desk);

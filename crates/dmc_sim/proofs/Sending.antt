@@ -10,7 +10,7 @@ use Rattle.dmc_types.specs.declared.refusal.Refusal.{Refusal}
 use Rattle.dmc_tag.specs.Tag.{Tagging}
 use Rattle.dmc_tag.specs.State.{State, is_client}
 use Rattle.dmc_tag.specs.Outcome.{◌>>=◌}
-use Rattle.dmc_scene.specs.SceneValue.{SceneValue, ClientValue, AreApart}
+use Rattle.dmc_scene.specs.SceneValue.{SceneValue, ClientValue, AreApart, cost_at}
 use Rattle.dmc_core.specs.Core.{CoreValue, RepresentsRun}
 use Rattle.dmc_core.specs.declared.event.CoreEvent.TheVariants.{Stamp, Arrive}
 use Rattle.dmc_sim.specs.Simulation.{Entry, Sim, Returned, asked, is_tagged, plan_of, next_server, send_to, client_turn, each_in_turn}
@@ -45,7 +45,7 @@ module _ {T : Type 0} (scene : SceneValue) (trace : List (Entry T)) (server : Se
 
 module _ {T Q : Type 0} (ops : Tagging T) (state : Q → State T) (scene : SceneValue) (at : ℕ) (server : ServerId) (first second third : CoreValue Q) (old new : SimClient) (stamped arrived : Returned T) where
   -- if it stamps a request, and the request arrives
-  pub sent_to : ((sim : Sim T) → RepresentsRun state first sim.run → Gives (asked ops (Stamp old.scene.id server (record { 0 = old.sent })) sim) (IsAfter ops state (Stamp old.scene.id server (record { 0 = old.sent })) sim second stamped))
+  pub sent_to : ((sim : Sim T) → RepresentsRun state first sim.run → Gives (asked ops (Stamp old.scene.id server (record { 0 = old.sent }) (cost_at old.scene.costs old.sent)) sim) (IsAfter ops state (Stamp old.scene.id server (record { 0 = old.sent }) (cost_at old.scene.costs old.sent)) sim second stamped))
       → ((sim : Sim T) → RepresentsRun state second sim.run → Gives (asked ops (Arrive old.scene.id server at) sim) (IsAfter ops state (Arrive old.scene.id server at) sim third arrived))
       → IsSent arrived old new → (sim : Sim T) → ClientAt state scene first old sim → Gives (send_to ops at old.scene (Some server) sim) (ClientAt state scene third new)
   sent_to stamps arrives is sim h =
@@ -53,10 +53,10 @@ module _ {T Q : Type 0} (ops : Tagging T) (state : Q → State T) (scene : Scene
       let one = stamps sim h.run in
       let two = arrives one.value one.holds.run in
       let arrive = λ (u : Sim T). asked ops (Arrive id server at) u in
-      let stamp = λ (n : ℕ). asked ops (Stamp id server (record { 0 = n })) sim in
-      let before = after_trace ops state (Stamp id server (record { 0 = old.sent })) sim one.value second stamped one.holds in
+      let stamp = λ (n : ℕ). asked ops (Stamp id server (record { 0 = n }) (cost_at old.scene.costs n)) sim in
+      let before = after_trace ops state (Stamp id server (record { 0 = old.sent }) (cost_at old.scene.costs old.sent)) sim one.value second stamped one.holds in
       let after = after_trace ops state (Arrive id server at) one.value two.value third arrived two.holds in
-      let still = subst (λ (t : List (Entry T)). IsCounted scene t old) (sym before) (still_counted scene sim.trace (sim.trace ++ entry (Stamp id server (record { 0 = old.sent })) stamped ∷ []) old (same_counts id sim.trace (entry (Stamp id server (record { 0 = old.sent })) stamped) refl refl refl) h.counted) in
+      let still = subst (λ (t : List (Entry T)). IsCounted scene t old) (sym before) (still_counted scene sim.trace (sim.trace ++ entry (Stamp id server (record { 0 = old.sent }) (cost_at old.scene.costs old.sent)) stamped ∷ []) old (same_counts id sim.trace (entry (Stamp id server (record { 0 = old.sent }) (cost_at old.scene.costs old.sent)) stamped) refl refl refl) h.counted) in
       record {
         value = two.value;
         is = ap (λ (n : ℕ). stamp n >>= arrive) (sym h.counted.sent) ∙ ap (λ r. r >>= arrive) one.is ∙ two.is;
@@ -79,6 +79,11 @@ none_next scene trace c h e =
     let long : length (plan_of scene c.scene) ≡ c.scene.requests = ap length (sym h.plan) ∙ sym c.plan.ok.0 ∙ c.planned in
     omega (arith, all, long)
     )))
+
+-- the next request of a client is the one that its own counts say
+pub some_next : {T : Type 0} (scene : SceneValue) (trace : List (Entry T)) (c : SimClient) (server : ServerId) → IsCounted scene trace c
+    → (if nat_lt c.sent (c.completed + c.scene.window) then slice_get c.plan.items c.sent else None) ≡ Some server → next_server scene c.scene trace ≡ Some server
+some_next scene trace c server h e = rw (sym h.sent, sym h.completed, sym h.plan) e
 
 -- ---- among all clients
 

@@ -16,6 +16,7 @@ use Rattle.dmc_scene.specs.SceneValue.{SceneValue}
 use Rattle.dmc_core.specs.Core.{CoreValue, RepresentsRun}
 use Rattle.dmc_core.specs.Events.{cluster_step}
 use Rattle.dmc_core.specs.declared.event.CoreEvent.TheVariants.{Pull, Respond}
+use Rattle.dmc_sim.specs.declared.ask.Grant.{Grant}
 use Rattle.dmc_sim.specs.Simulation.{Entry, Sim, Returned, asked, grant_in, granted_by, is_counted, is_granted_in, is_phase, is_server, respond_to, server_turn, each_in_turn}
 use Rattle.dmc_sim.specs.internal.Counts.{AreDifferent}
 use Rattle.dmc_sim.specs.internal.Simulations.{IsCounted, AreGrants, ClientsAt, AllAt, Ends, Gives, IsAfter}
@@ -29,11 +30,11 @@ use Rattle.dmc_sim.proofs.Traces.{one_if, entry, after_trace, same_counts, compl
 
 -- ---- the client of a grant responds
 
-module _ {T : Type 0} (scene : SceneValue) (trace : List (Entry T)) (id : ClientId) (server : ServerId) (phase : PhaseType) (returned : Returned T) where
+module _ {T : Type 0} (scene : SceneValue) (trace : List (Entry T)) (id : ClientId) (server : ServerId) (phase : PhaseType) (cost : ℕ) (returned : Returned T) where
   -- a completion that is counted is one of the client
-  completed_one : (old new : SimClient) → is_counted returned ≡ true → Completes id phase old new → IsCounted scene trace old → IsCounted scene (trace ++ entry (Respond id server phase) returned ∷ []) new
+  completed_one : (old new : SimClient) → is_counted returned ≡ true → Completes id phase old new → IsCounted scene trace old → IsCounted scene (trace ++ entry (Respond id server phase cost) returned ∷ []) new
   completed_one old new counted is h =
-      let e : Entry T = entry (Respond id server phase) returned in
+      let e : Entry T = entry (Respond id server phase cost) returned in
       let own = old.scene.id in
       let one : one_if (is_client own id && is_counted returned) ≡ one_if (is_client own id) = ap (λ b. one_if (is_client own id && b)) counted ∙ ap one_if (and-true (is_client own id)) in
       let reserved : one_if ((is_client own id && is_counted returned) && is_phase Reservation phase) ≡ one_if (is_client own id && is_phase Reservation phase) =
@@ -41,15 +42,15 @@ module _ {T : Type 0} (scene : SceneValue) (trace : List (Entry T)) (id : Client
       counted_as scene (trace ++ e ∷ []) new old.scene is.scene (is.plan ∙ h.plan) (omega (arith, sent_more trace e own, is.sent, h.sent)) (omega (arith, completed_more trace e own, one, is.completed, h.completed))
       (omega (arith, reserved_more trace e own, reserved, is.reservation, h.reservation))
 
-module _ {T Q : Type 0} (ops : Tagging T) (state : Q → State T) (scene : SceneValue) (id : ClientId) (server : ServerId) (phase : PhaseType) (core core' : CoreValue Q) (clients : List SimClient) (returned : Returned T)
-    (responds : (sim : Sim T) → RepresentsRun state core sim.run → Gives (asked ops (Respond id server phase) sim) (IsAfter ops state (Respond id server phase) sim core' returned)) (sim : Sim T) (h : ClientsAt state scene core clients sim) where
-  pub responded_counted : (new : List SimClient) → length new ≡ length clients → is_counted returned ≡ true → CompletesOne id phase clients new → Gives (asked ops (Respond id server phase) sim) (ClientsAt state scene core' new)
+module _ {T Q : Type 0} (ops : Tagging T) (state : Q → State T) (scene : SceneValue) (id : ClientId) (server : ServerId) (phase : PhaseType) (cost : ℕ) (core core' : CoreValue Q) (clients : List SimClient) (returned : Returned T)
+    (responds : (sim : Sim T) → RepresentsRun state core sim.run → Gives (asked ops (Respond id server phase cost) sim) (IsAfter ops state (Respond id server phase cost) sim core' returned)) (sim : Sim T) (h : ClientsAt state scene core clients sim) where
+  pub responded_counted : (new : List SimClient) → length new ≡ length clients → is_counted returned ≡ true → CompletesOne id phase clients new → Gives (asked ops (Respond id server phase cost) sim) (ClientsAt state scene core' new)
   responded_counted new long counted is =
       let given = responds sim h.run in
-      let after = after_trace ops state (Respond id server phase) sim given.value core' returned given.holds in
+      let after = after_trace ops state (Respond id server phase cost) sim given.value core' returned given.holds in
       let each = λ (k : ℕ) (d : SimClient) (w : k < length new).
       let before : k < length clients = omega (arith, long, w) in
-      completed_one scene sim.trace id server phase returned (get_or clients k d) (get_or new k d) counted (is k d before) (h.counted k d before) in
+      completed_one scene sim.trace id server phase cost returned (get_or clients k d) (get_or new k d) counted (is k d before) (h.counted k d before) in
       record {
         value = given.value;
         is = given.is;
@@ -114,21 +115,21 @@ module _ {T Q : Type 0} (ops : Tagging T) (state : Q → State T) (scene : Scene
       }
 
   -- a request is granted, and its client responds
-  module _ (grant : ClientId × PhaseType) (granted : grant_in returned ≡ Some grant) (row' : ServerReport) (is : IsGranted grant.1 row row') where
+  module _ (grant : Grant) (granted : grant_in returned ≡ Some grant) (row' : ServerReport) (is : IsGranted grant.phase row row') where
     row_after : AreGrants after_pull.trace row'
     row_after =
-        let one : (phase : PhaseType) → one_if (is_granted_in phase (grant_in returned)) ≡ one_if (is_phase phase grant.1) = λ phase. ap (λ o. one_if (is_granted_in phase o)) granted in
+        let one : (phase : PhaseType) → one_if (is_granted_in phase (grant_in returned)) ≡ one_if (is_phase phase grant.phase) = λ phase. ap (λ o. one_if (is_granted_in phase o)) granted in
         record {
           reservation = let e : row'.reservation ≡ granted_by row.server Reservation after_pull.trace = omega (arith, grown Reservation, one Reservation, h.grants.reservation, is.reservation) in e ∙ ap (λ (s : ServerId). granted_by s Reservation after_pull.trace) (sym is.server);
           priority = let e : row'.priority ≡ granted_by row.server Priority after_pull.trace = omega (arith, grown Priority, one Priority, h.grants.priority, is.priority) in e ∙ ap (λ (s : ServerId). granted_by s Priority after_pull.trace) (sym is.server);
         }
 
-    pub one_granted : {A : Type 0} (core'' : CoreValue Q) (clients' : List SimClient) (result : Result A SimFault) → Ends (asked ops (Respond grant.0 row.server grant.1) after_pull) (λ x. ClientsAt state scene core'' clients') result
+    pub one_granted : {A : Type 0} (core'' : CoreValue Q) (clients' : List SimClient) (result : Result A SimFault) → Ends (asked ops (Respond grant.client row.server grant.phase grant.cost) after_pull) (λ x. ClientsAt state scene core'' clients') result
         → Ends (server_turn ops at row.server sim) (λ x. ServerAt state scene core'' clients' row') result
     one_granted core'' clients' result ends =
-        ends_as (asked ops (Respond grant.0 row.server grant.1) after_pull) (server_turn ops at row.server sim) (λ x. ClientsAt state scene core'' clients') (λ x. ServerAt state scene core'' clients' row') result
+        ends_as (asked ops (Respond grant.client row.server grant.phase grant.cost) after_pull) (server_turn ops at row.server sim) (λ x. ClientsAt state scene core'' clients') (λ x. ServerAt state scene core'' clients' row') result
         (turn_is ∙ ap (λ o. respond_to ops row.server o after_pull) granted)
-        (λ x next e at'. record { at = at'; grants = still_granted after_pull.trace next.trace row' (asked_grants ops (Respond grant.0 row.server grant.1) after_pull next e row'.server (λ phase. refl)) row_after })
+        (λ x next e at'. record { at = at'; grants = still_granted after_pull.trace next.trace row' (asked_grants ops (Respond grant.client row.server grant.phase grant.cost) after_pull next e row'.server (λ phase. refl)) row_after })
         ends
 
 -- ---- among all servers

@@ -46,7 +46,7 @@ module _ {T : Type 0} where
   not_refused (Ok (Served replies.Registered)) s next e = cc
   not_refused (Ok (Served replies.Updated)) s next e = cc
   not_refused (Ok (Served (replies.Tagged tags))) s next e = cc
-  not_refused (Ok (Served (replies.Granted client token phase beyond))) s next e = cc
+  not_refused (Ok (Served (replies.Granted client token phase beyond cost))) s next e = cc
   not_refused (Ok (Served (replies.Later at))) s next e = cc
   not_refused (Ok (Served replies.Nothing)) s next e = cc
   not_refused (Ok (Served (replies.Removed count))) s next e = cc

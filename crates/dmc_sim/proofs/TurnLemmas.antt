@@ -6,10 +6,11 @@ use Rattle.dmc_types.specs.declared.ids.ServerId.{ServerId}
 use Rattle.dmc_types.specs.declared.config.PhaseType.{PhaseType}
 use Rattle.dmc_tag.specs.Tag.{Tagging}
 use Rattle.dmc_tag.specs.State.{is_client}
-use Rattle.dmc_scene.specs.SceneValue.{SceneValue, ClientValue}
+use Rattle.dmc_scene.specs.SceneValue.{SceneValue, ClientValue, cost_at}
 use Rattle.dmc_core.specs.declared.event.CoreEvent.{CoreEvent}
 use Rattle.dmc_core.specs.declared.event.CoreEvent.TheVariants.{Stamp, Arrive, Pull, Respond}
 use Rattle.dmc_core.specs.Events.{cluster_step}
+use Rattle.dmc_sim.specs.declared.ask.Grant.{Grant}
 use Rattle.dmc_sim.specs.Simulation.{Entry, Sim, entry_of, asked, grant_in, is_arrival, is_completion, is_reserved, is_grant, is_server, sent_by, next_server, send_to, client_turn, respond_to, server_turn, each_in_turn}
 use Rattle.dmc_sim.proofs.Traces.{SameCounts, SameGrants, asked_trace, chained, same_counts, same_grants, counts_both, grants_both, counts_stay, grants_stay}
 
@@ -27,14 +28,14 @@ module _ {T : Type 0} (ops : Tagging T) where
   sending_counts : (at : ℕ) (c : ClientValue) (o : Option ServerId) (sim next : Sim T) → send_to ops at c o sim ≡ Ok next → (id : ClientId) → is_client id c.id ≡ false → SameCounts id sim.trace next.trace
   sending_counts at c None sim next e id other = let same : sim ≡ next = cc in subst (λ (s : Sim T). SameCounts id sim.trace s.trace) same (counts_stay id sim.trace)
   sending_counts at c (Some server) sim next e id other =
-      let l = chained (asked ops (Stamp c.id server (record { 0 = sent_by c.id sim.trace })) sim) (λ (stamped : Sim T). asked ops (Arrive c.id server at) stamped) next e in
-      counts_both (asked_counts (Stamp c.id server (record { 0 = sent_by c.id sim.trace })) sim l.first l.is id refl refl refl) (asked_counts (Arrive c.id server at) l.first next l.rest id (and_left _ _ other) refl refl)
+      let l = chained (asked ops (Stamp c.id server (record { 0 = sent_by c.id sim.trace }) (cost_at c.costs (sent_by c.id sim.trace))) sim) (λ (stamped : Sim T). asked ops (Arrive c.id server at) stamped) next e in
+      counts_both (asked_counts (Stamp c.id server (record { 0 = sent_by c.id sim.trace }) (cost_at c.costs (sent_by c.id sim.trace))) sim l.first l.is id refl refl refl) (asked_counts (Arrive c.id server at) l.first next l.rest id (and_left _ _ other) refl refl)
 
   sending_grants : (at : ℕ) (c : ClientValue) (o : Option ServerId) (sim next : Sim T) → send_to ops at c o sim ≡ Ok next → (s : ServerId) → SameGrants s sim.trace next.trace
   sending_grants at c None sim next e s = let same : sim ≡ next = cc in subst (λ (u : Sim T). SameGrants s sim.trace u.trace) same (grants_stay s sim.trace)
   sending_grants at c (Some server) sim next e s =
-      let l = chained (asked ops (Stamp c.id server (record { 0 = sent_by c.id sim.trace })) sim) (λ (stamped : Sim T). asked ops (Arrive c.id server at) stamped) next e in
-      grants_both (asked_grants (Stamp c.id server (record { 0 = sent_by c.id sim.trace })) sim l.first l.is s (λ phase. refl)) (asked_grants (Arrive c.id server at) l.first next l.rest s (λ phase. refl))
+      let l = chained (asked ops (Stamp c.id server (record { 0 = sent_by c.id sim.trace }) (cost_at c.costs (sent_by c.id sim.trace))) sim) (λ (stamped : Sim T). asked ops (Arrive c.id server at) stamped) next e in
+      grants_both (asked_grants (Stamp c.id server (record { 0 = sent_by c.id sim.trace }) (cost_at c.costs (sent_by c.id sim.trace))) sim l.first l.is s (λ phase. refl)) (asked_grants (Arrive c.id server at) l.first next l.rest s (λ phase. refl))
 
   pub client_turn_counts : (scene : SceneValue) (at : ℕ) (c : ClientValue) (sim next : Sim T) → client_turn ops scene at c sim ≡ Ok next → (id : ClientId) → is_client id c.id ≡ false → SameCounts id sim.trace next.trace
   client_turn_counts scene at c sim next e id other = sending_counts at c (next_server scene c sim.trace) sim next e id other
@@ -47,9 +48,9 @@ module _ {T : Type 0} (ops : Tagging T) where
 
   -- ---- the turn of a server
 
-  responding_grants : (at : ServerId) (o : Option (ClientId × PhaseType)) (sim next : Sim T) → respond_to ops at o sim ≡ Ok next → (s : ServerId) → SameGrants s sim.trace next.trace
+  responding_grants : (at : ServerId) (o : Option Grant) (sim next : Sim T) → respond_to ops at o sim ≡ Ok next → (s : ServerId) → SameGrants s sim.trace next.trace
   responding_grants at None sim next e s = let same : sim ≡ next = cc in subst (λ (u : Sim T). SameGrants s sim.trace u.trace) same (grants_stay s sim.trace)
-  responding_grants at (Some grant) sim next e s = asked_grants (Respond grant.0 at grant.1) sim next e s (λ phase. refl)
+  responding_grants at (Some grant) sim next e s = asked_grants (Respond grant.client at grant.phase grant.cost) sim next e s (λ phase. refl)
 
   pub server_turn_grants : (at : ℕ) (server : ServerId) (sim next : Sim T) → server_turn ops at server sim ≡ Ok next → (s : ServerId) → is_server s server ≡ false → SameGrants s sim.trace next.trace
   server_turn_grants at server sim next e s other =

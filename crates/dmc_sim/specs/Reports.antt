@@ -1,17 +1,20 @@
 -- The report of a simulation.
 use Rattle.std.specs.Prelude.{◌≡◌, ℕ, zero, suc, ◌+◌, ◌-◌, ◌≤◌, not, Bool, false, ⊤, List, length, map, slice_get, option_map, unwrap_or, Result, Ok, Err}
-use Rattle.std.specs.List.{AllZip, range_with_len}
+use Rattle.std.specs.List.{AllZip, find, range_with_len}
+use Rattle.std.specs.Option.{option_map_or}
+use Rattle.dmc_types.specs.declared.ids.ClientId.{ClientId}
 use Rattle.dmc_types.specs.declared.ids.ServerId.{ServerId}
 use Rattle.dmc_types.specs.declared.config.PhaseType.TheVariants.{Reservation, Priority}
 use Rattle.dmc_types.specs.declared.config.TagKind.{TagKind}
 use Rattle.dmc_types.specs.declared.config.TagKind.TheVariants.{Tick, Ratio}
 use Rattle.dmc_types.specs.declared.refusal.Refusal.{Refusal}
-use Rattle.dmc_tag.specs.State.{queued_requests}
+use Rattle.dmc_tag.specs.State.{is_client, queued_requests}
 use Rattle.dmc_tag.specs.Tag.{Tagging}
 use Rattle.dmc_tag.specs.Outcome.{◌>>=◌}
 use Rattle.dmc_tick.specs.Tick.{tick_ops}
 use Rattle.dmc_ratio.specs.Ratio.{ratio_ops}
-use Rattle.dmc_scene.specs.SceneValue.{SceneValue, ClientValue}
+use Rattle.dmc_scene.specs.SceneValue.{SceneValue, ClientValue, has_costs}
+use Rattle.dmc_tracker.specs.TrackerList.{completions}
 use Rattle.dmc_core.specs.Run.{Run}
 use Rattle.dmc_sim.specs.Simulation.{Entry, Sim, sent_by, completed_by, reserved_by, granted_by, all_complete, servers_of, moment_of, simulation}
 use Rattle.dmc_sim.specs.declared.report.ClientReport.{ClientReport}
@@ -26,17 +29,29 @@ pub record ReportValue : Type 0 where
   pub servers : List ServerReport
   pub end : ℕ
   pub turns_out : Bool
+  pub with_costs : Bool
 
 abbrev pub value_of : SimReport → ReportValue
-value_of report = record { clients = report.clients.items; servers = report.servers.items; end = report.end; turns_out = report.turns_out }
+value_of report = record {
+  clients = report.clients.items;
+  servers = report.servers.items;
+  end = report.end;
+  turns_out = report.turns_out;
+  with_costs = report.with_costs;
+}
 
-abbrev pub client_row : {T : Type 0} → List (Entry T) → ClientValue → ClientReport
-client_row trace c = record {
+-- the costs of a client's completions, as its tracker counts them
+abbrev pub cost_of : {T : Type 0} → Run T → ClientId → ℕ
+cost_of run id = option_map_or (λ c. (completions c.list).delta) (find (λ c. is_client id c.id) run.clients) 0
+
+abbrev pub client_row : {T : Type 0} → Sim T → ClientValue → ClientReport
+client_row sim c = record {
   client = c.id;
-  sent = sent_by c.id trace;
-  completed = completed_by c.id trace;
-  reservation = reserved_by c.id trace;
-  priority = completed_by c.id trace - reserved_by c.id trace;
+  sent = sent_by c.id sim.trace;
+  completed = completed_by c.id sim.trace;
+  reservation = reserved_by c.id sim.trace;
+  priority = completed_by c.id sim.trace - reserved_by c.id sim.trace;
+  cost = cost_of sim.run c.id;
 }
 
 -- how many requests are queued at a server
@@ -58,10 +73,11 @@ end_of scene (suc k) = moment_of scene k
 
 abbrev pub report_after : {T : Type 0} → SceneValue → ℕ → Sim T → ReportValue
 report_after scene made sim = record {
-  clients = map (client_row sim.trace) scene.clients;
+  clients = map (client_row sim) scene.clients;
   servers = map (server_row sim) (servers_of scene);
   end = end_of scene made;
   turns_out = not (all_complete scene sim.trace);
+  with_costs = has_costs scene.clients;
 }
 
 -- the report of a scene, or the refusal that ends its simulation

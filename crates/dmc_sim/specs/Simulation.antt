@@ -12,7 +12,8 @@ use Rattle.dmc_tag.specs.State.{is_client}
 use Rattle.dmc_tag.specs.Outcome.{◌>>=◌}
 use Rattle.dmc_tag.specs.declared.reply.Reply.TheVariants.{Tagged, Granted, Refused}
 use Rattle.dmc_work.specs.Plan.{generator, planned, word}
-use Rattle.dmc_scene.specs.SceneValue.{SceneValue, ClientValue}
+use Rattle.dmc_scene.specs.SceneValue.{SceneValue, ClientValue, cost_at}
+use Rattle.dmc_sim.specs.declared.ask.Grant.{Grant}
 use Rattle.dmc_core.specs.Run.{Run}
 use Rattle.dmc_core.specs.Events.{cluster_step}
 use Rattle.dmc_core.specs.Opening.{opening_of}
@@ -67,9 +68,9 @@ abbrev pub is_counted : {T : Type 0} → Returned T → Bool
 is_counted (Ok Counted) = true
 is_counted returned = false
 
--- a request of this client is granted in this phase
-abbrev pub grant_in : {T : Type 0} → Returned T → Option (ClientId × PhaseType)
-grant_in (Ok (Served (Granted client token phase beyond))) = Some (client, phase)
+-- a request is granted
+abbrev pub grant_in : {T : Type 0} → Returned T → Option Grant
+grant_in (Ok (Served (Granted client token phase beyond cost))) = Some (record { client = client; phase = phase; cost = cost })
 grant_in returned = None
 
 -- ---- what a trace counts
@@ -89,16 +90,16 @@ is_arrival id event returned = false
 
 -- a response of the client is counted
 abbrev pub is_completion : {T : Type 0} → ClientId → CoreEvent → Returned T → Bool
-is_completion id (Respond client server phase) returned = is_client id client && is_counted returned
+is_completion id (Respond client server phase cost) returned = is_client id client && is_counted returned
 is_completion id event returned = false
 
 -- a response of the client is counted, and the grant was in the constraint phase
 abbrev pub is_reserved : {T : Type 0} → ClientId → CoreEvent → Returned T → Bool
-is_reserved id (Respond client server phase) returned = (is_client id client && is_counted returned) && is_phase Reservation phase
+is_reserved id (Respond client server phase cost) returned = (is_client id client && is_counted returned) && is_phase Reservation phase
 is_reserved id event returned = false
 
-abbrev pub is_granted_in : PhaseType → Option (ClientId × PhaseType) → Bool
-is_granted_in phase (Some grant) = is_phase phase grant.1
+abbrev pub is_granted_in : PhaseType → Option Grant → Bool
+is_granted_in phase (Some grant) = is_phase phase grant.phase
 is_granted_in phase None = false
 
 -- the server grants a request in the phase
@@ -135,20 +136,20 @@ plan_of scene c = planned (word (generator scene.seed c.id.0)) scene.servers c.r
 abbrev pub next_server : {T : Type 0} → SceneValue → ClientValue → List (Entry T) → Option ServerId
 next_server scene c trace = if nat_lt (sent_by c.id trace) (completed_by c.id trace + c.window) then slice_get (plan_of scene c) (sent_by c.id trace) else None
 
--- a client stamps its next request for this server, if there is one, by the request's number, and it arrives at once
+-- a client stamps its next request for this server, if there is one, by the request's number and with its cost, and it arrives at once
 abbrev pub send_to : {T : Type 0} → Tagging T → ℕ → ClientValue → Option ServerId → Sim T → Result (Sim T) Refusal
 send_to ops at c None sim = Ok sim
 send_to ops at c (Some server) sim = do
-  stamped ← asked ops (Stamp c.id server (record { 0 = sent_by c.id sim.trace })) sim
+  stamped ← asked ops (Stamp c.id server (record { 0 = sent_by c.id sim.trace }) (cost_at c.costs (sent_by c.id sim.trace))) sim
   asked ops (Arrive c.id server at) stamped
 
 abbrev pub client_turn : {T : Type 0} → Tagging T → SceneValue → ℕ → ClientValue → Sim T → Result (Sim T) Refusal
 client_turn ops scene at c sim = send_to ops at c (next_server scene c sim.trace) sim
 
 -- the client of a grant, if there is one, responds at once
-abbrev pub respond_to : {T : Type 0} → Tagging T → ServerId → Option (ClientId × PhaseType) → Sim T → Result (Sim T) Refusal
+abbrev pub respond_to : {T : Type 0} → Tagging T → ServerId → Option Grant → Sim T → Result (Sim T) Refusal
 respond_to ops s None sim = Ok sim
-respond_to ops s (Some grant) sim = asked ops (Respond grant.0 s grant.1) sim
+respond_to ops s (Some grant) sim = asked ops (Respond grant.client s grant.phase grant.cost) sim
 
 -- a server pulls once
 abbrev pub server_turn : {T : Type 0} → Tagging T → ℕ → ServerId → Sim T → Result (Sim T) Refusal

@@ -12,7 +12,16 @@ use dmc_core::event::{CoreEvent, CoreFault, CoreReply};
 use dmc_tag::reply::Reply;
 use dmc_tag::tag::Tag;
 use dmc_types::config::PhaseType;
+use dmc_types::cost::Cost;
 use dmc_types::ids::ClientId;
+
+/// A grant, which its client responds to: of a request of this cost, in a phase.
+#[derive(Clone, Copy)]
+pub struct Grant {
+    pub client: ClientId,
+    pub phase: PhaseType,
+    pub cost: Cost,
+}
 
 /// What the cluster returns for an event. The refusal of a queue ends the simulation.
 #[inline(always)]
@@ -57,13 +66,26 @@ pub fn is_counted<T: Tag>(returned: &Result<CoreReply<T>, CoreFault>) -> bool
     matches!(returned, Ok(CoreReply::Counted))
 }
 
-/// The client of a request that was granted, and the phase.
+/// The grant of a request.
 #[inline(always)]
-pub fn grant_in<T: Tag>(returned: &Result<CoreReply<T>, CoreFault>) -> Option<(ClientId, PhaseType)>
+pub fn grant_in<T: Tag>(returned: &Result<CoreReply<T>, CoreFault>) -> Option<Grant>
     ensures { result ≡ grant_in returned.now }
 {
     match returned {
-        Ok(CoreReply::Served(Reply::Granted { client, phase, .. })) => Some((*client, *phase)),
+        Ok(
+            CoreReply::Served(
+                Reply::Granted {
+                    client,
+                    phase,
+                    cost,
+                    ..
+                },
+            ),
+        ) => Some(Grant {
+            client: *client,
+            phase: *phase,
+            cost: *cost,
+        }),
         _ => None,
     }
 }

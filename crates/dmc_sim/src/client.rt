@@ -11,8 +11,8 @@ use dmc_types::ids::ServerId;
 use dmc_work::plan::plan;
 use std::alloc::{AllocError, Global};
 
-/// A client: its part of the scene, the servers of its requests, how many of them it has sent, and how many are completed, in all
-/// and in the constraint phase. A round completes at most one request at each server, so a simulation of 2^30 rounds and 64
+/// A client: its part of the scene, the servers of its requests, how many of them it has sent, how many are completed, in all and in
+/// the constraint phase, and in the end what those cost. A round completes at most one request at each server, so a simulation of 2^30 rounds and 64
 /// servers completes at most 2^36.
 #[derive(Drop)]
 pub struct SimClient {
@@ -21,6 +21,7 @@ pub struct SimClient {
     pub sent: u32,
     pub completed: u64,
     pub reservation: u64,
+    pub cost: u64,
     ghost few: { scene.requests ≤ max_client_requests },
     ghost planned: { vec_len plan ≡ scene.requests },
     ghost within: { sent ≤ scene.requests },
@@ -50,6 +51,7 @@ impl SimClient {
             sent: 0,
             completed: 0,
             reservation: 0,
+            cost: 0,
         })
     }
 

@@ -1,6 +1,6 @@
 //! The report of a simulation.
 ghost use Rattle.std.specs.Prelude.{◌≡◌, ◌++◌, IfOk, OnOk, flat_map, string_bytes};
-ghost use Rattle.dmc_sim.specs.Texts.{client_line, report_text, server_line};
+ghost use Rattle.dmc_sim.specs.Texts.{client_line, client_numbers, cost_words, report_text, server_line};
 ghost use Rattle.dmc_sim.specs.declared.report.SimFault.TheVariants.{Memory};
 
 use dmc_types::ids::{ClientId, ServerId};
@@ -20,6 +20,8 @@ pub struct ClientReport {
     pub reservation: u64,
     /// The requests that were completed by a grant in the weight phase, beyond the limit or not.
     pub priority: u64,
+    /// What the completed requests cost.
+    pub cost: u64,
 }
 
 /// A server's requests, in numbers.
@@ -45,6 +47,8 @@ pub struct SimReport {
     pub end: Moment,
     /// Whether the rounds ended before all requests were completed.
     pub turns_out: bool,
+    /// Whether a client of the scene has costs. Then the line of each client has the costs of its completions.
+    pub with_costs: bool,
 }
 
 /// The reason why a simulation has no report.
@@ -69,7 +73,7 @@ pub fn report_text(alloc: Global, report: &SimReport) -> Result<String, AllocErr
     ensures { IfOk result (λ text. string_bytes text ≡ report_text report.now) }
 {
     let mut text = String::new(alloc);
-    put_clients(&report.clients, &mut text)?;
+    put_clients(&report.clients, report.with_costs, &mut text)?;
     put_servers(&report.servers, &mut text)?;
     let end = report.end.ticks();
     writeln!(text, "end {end}")?;
@@ -77,28 +81,47 @@ pub fn report_text(alloc: Global, report: &SimReport) -> Result<String, AllocErr
 }
 
 /// Adds the line of each client.
-fn put_clients(rows: &[ClientReport], text: &mut String) -> Result<(), AllocError>
-    ensures { OnOk result (string_bytes text.new ≡ string_bytes text.old ++ flat_map client_line rows.now) }
+fn put_clients(rows: &[ClientReport], with_costs: bool, text: &mut String) -> Result<(), AllocError>
+    ensures { OnOk result (string_bytes text.new ≡ string_bytes text.old ++ flat_map (client_line with_costs) rows.now) }
 {
     for row in rows {
-        put_client(row, text)?;
+        put_client(row, with_costs, text)?;
     }
     Ok(())
 }
 
 /// Adds the line of a client.
-fn put_client(row: &ClientReport, text: &mut String) -> Result<(), AllocError>
-    ensures { OnOk result (string_bytes text.new ≡ string_bytes text.old ++ client_line row.now) }
+fn put_client(row: &ClientReport, with_costs: bool, text: &mut String) -> Result<(), AllocError>
+    ensures { OnOk result (string_bytes text.new ≡ string_bytes text.old ++ client_line with_costs row.now) }
+{
+    put_numbers(row, text)?;
+    put_cost(with_costs, row.cost, text)?;
+    writeln!(text)
+}
+
+/// Adds a client's requests, in numbers.
+fn put_numbers(row: &ClientReport, text: &mut String) -> Result<(), AllocError>
+    ensures { OnOk result (string_bytes text.new ≡ string_bytes text.old ++ client_numbers row.now) }
 {
     let client = row.client.0;
     let sent = row.sent;
     let completed = row.completed;
     let reservation = row.reservation;
     let priority = row.priority;
-    writeln!(
+    write!(
         text,
         "client {client} sent {sent} completed {completed} reservation {reservation} priority {priority}"
     )
+}
+
+/// Adds what a client's completed requests cost, if that is asked for.
+pub fn put_cost(with_costs: bool, cost: u64, text: &mut String) -> Result<(), AllocError>
+    ensures { OnOk result (string_bytes text.new ≡ string_bytes text.old ++ cost_words with_costs cost) }
+{
+    if !with_costs {
+        return Ok(());
+    }
+    write!(text, " cost {cost}")
 }
 
 /// Adds the line of each server.

@@ -10,7 +10,7 @@ ghost use Rattle.dmc_sim.specs.Simulation.{asked, client_turn, each_in_turn, is_
 ghost use Rattle.dmc_sim.specs.internal.Simulations.{AllAt, AreMarked, ClientsAt, Ends, has_next};
 ghost use Rattle.dmc_sim.specs.internal.Turns.{ClientAt, CompletesOne, ServerAt};
 
-use crate::ask::{ask, grant_in, is_counted, is_tagged};
+use crate::ask::{Grant, ask, grant_in, is_counted, is_tagged};
 use crate::client::SimClient;
 use crate::report::{ServerReport, SimFault};
 use dmc_core::cluster_core::ClusterCore;
@@ -59,6 +59,7 @@ fn send_to<T: Tag>(
             client: id,
             server,
             token,
+            cost: client.scene.cost(client.sent),
         },
     )?;
     let returned = ask(
@@ -161,7 +162,7 @@ fn respond<T: Tag>(
     clients: &mut [SimClient],
     marks: &mut [bool],
     server: ServerId,
-    grant: (ClientId, PhaseType),
+    grant: Grant,
 ) -> Result<(), SimFault>
     requires marks { length marks.old ≡ length clients.old }
     requires ids { ids.now ≡ map (λ k. k.id) (map (λ c. c.scene) clients.old) }
@@ -171,15 +172,20 @@ fn respond<T: Tag>(
     ensures scenes { OnOk result (map (λ c. c.scene) clients.new ≡ map (λ c. c.scene) clients.old) }
     ensures completed { OnOk result ((n : ℕ) → HaveCompleted n clients.old → HaveCompleted (n + 1) clients.new) }
     ensures marked { OnOk result (AreMarked marks.new clients.new) }
-    ensures turn { (scene : SceneValue) (sim : Sim T) → ClientsAt state_of scene core.old clients.old sim → Ends (asked T.ops (events.Respond grant.0 server grant.1) sim) (λ _. ClientsAt state_of scene core.new clients.new) result }
+    ensures turn { (scene : SceneValue) (sim : Sim T) → ClientsAt state_of scene core.old clients.old sim → Ends (asked T.ops (events.Respond grant.client server grant.phase grant.cost) sim) (λ _. ClientsAt state_of scene core.new clients.new) result }
 {
-    let (client, phase) = grant;
+    let Grant {
+        client,
+        phase,
+        cost,
+    } = grant;
     let returned = ask(
         core,
         CoreEvent::Respond {
             client,
             server,
             phase,
+            cost,
         },
     )?;
     if is_counted(&returned) {
@@ -214,7 +220,7 @@ fn serve<T: Tag>(
     let returned = ask(core, CoreEvent::Pull { server, at })?;
     match grant_in(&returned) {
         Some(grant) => {
-            count_grant(row, grant.1);
+            count_grant(row, grant.phase);
             respond(core, ids, clients, marks, server, grant)
         }
         None => Ok(()),

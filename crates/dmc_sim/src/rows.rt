@@ -2,7 +2,7 @@
 ghost use Rattle.std.specs.Prelude.{◌≡◌, ◌≤◌, [], IfOk, length, map, vec_capacity};
 ghost use Rattle.std.specs.List.{range_with_len};
 ghost use Rattle.dmc_pull.specs.Queue.{state_of};
-ghost use Rattle.dmc_sim.specs.internal.Rows.{idle_row, row_of, with_left};
+ghost use Rattle.dmc_sim.specs.internal.Rows.{HasCost, HaveCosts, idle_row, row_of, with_left};
 
 use crate::client::SimClient;
 use crate::report::{ClientReport, ServerReport};
@@ -37,6 +37,23 @@ pub fn count_left<T: Tag>(core: &ClusterCore<T>, servers: &mut [ServerReport])
     }
 }
 
+/// Counts what the completed requests of each client cost, as its tracker does.
+pub fn count_costs<T: Tag>(core: &ClusterCore<T>, clients: &mut [SimClient])
+    ensures { HaveCosts core.now.clients clients.old clients.new }
+{
+    for client in clients.iter_mut() {
+        count_cost(core, client);
+    }
+}
+
+/// Counts what the completed requests of a client cost.
+fn count_cost<T: Tag>(core: &ClusterCore<T>, client: &mut SimClient)
+    ensures { HasCost core.now.clients client.old client.new }
+{
+    let (cost, _) = core.completions(client.scene.id()).unwrap_or((0, 0));
+    client.cost = cost;
+}
+
 /// Adds a row for each client, within the reserved capacity.
 pub fn put_rows(clients: &[SimClient], rows: &mut Vec<ClientReport>)
     requires none { rows.old.items ≡ [] }
@@ -58,5 +75,6 @@ fn row_of(client: &SimClient) -> ClientReport
         completed: client.completed,
         reservation: client.reservation,
         priority: client.completed - client.reservation,
+        cost: client.cost,
     }
 }

@@ -15,7 +15,7 @@ ghost use Rattle.dmc_sim.specs.internal.Turns.{HasRun, IsIdle};
 use crate::client::SimClient;
 use crate::report::{ServerReport, SimFault, SimReport};
 use crate::round::make_round;
-use crate::rows::{count_left, idle_servers, put_rows};
+use crate::rows::{count_costs, count_left, idle_servers, put_rows};
 use dmc_core::cluster_core::ClusterCore;
 use dmc_core::ids::ClientIds;
 use dmc_ratio::ratio::RatioTag;
@@ -62,10 +62,12 @@ fn simulate_on<T: Tag>(alloc: Global, scene: &Scene) -> Result<SimReport, SimFau
         servers,
         end,
         turns_out: !are_complete(&clients),
+        with_costs: scene.has_costs(),
     })
 }
 
-/// Opens the scene's cluster and runs it to the last round, whose moment it returns. The servers' rows then have what is left.
+/// Opens the scene's cluster and runs it to the last round, whose moment it returns. The servers' rows then have what is left, and
+/// the clients what their completions cost.
 fn run_scene<T: Tag>(
     alloc: Global,
     scene: &Scene,
@@ -116,7 +118,8 @@ fn moment_of(round: u32, step: u64) -> Moment
     Moment::new(ticks.min(MAX_MOMENT)).unwrap()
 }
 
-/// Makes the rounds and returns the moment of the last, or 0 if there is none. Then each row has what is left.
+/// Makes the rounds and returns the moment of the last, or 0 if there is none. Then each server's row has what is left, and each
+/// client what its completions cost.
 fn run<T: Tag>(
     core: &mut ClusterCore<T>,
     scene: &Scene,
@@ -140,6 +143,7 @@ fn run<T: Tag>(
 {
     let end = make_rounds(core, scene, ids, clients, marks, servers)?;
     count_left(core, servers);
+    count_costs(core, clients);
     Ok(end)
 }
 

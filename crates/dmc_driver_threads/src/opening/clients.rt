@@ -15,12 +15,11 @@ use crate::threads::Senders;
 use dmc_ledger::mint::Mint;
 use dmc_ledger::setup::Setup;
 use dmc_scene::client::SceneClient;
-use dmc_settle::report::{ClientReport, StopCause};
+use dmc_settle::report::{ClientReport, StampsLeft, StopCause};
 use dmc_shared::witness::{Lasting, Witness};
 use dmc_tlock::book::TrackerBook;
 use dmc_tlock::lock::LockedTracker;
 use dmc_tlock::pass::ClientPass;
-use dmc_tlock::settled::StampsHeld;
 use dmc_tracker::tracker::MakeFault;
 use dmc_types::ids::ClientId;
 use dmc_work::plan::plan;
@@ -168,14 +167,18 @@ impl<'a> Opening<'a> {
     ) -> Result<ClientJob<S>, AllocError> {
         let scene = self.scene;
         let servers = scene.servers();
-        let requests = client.requests();
-        let plan = plan(self.alloc, scene.seed(), client.id(), servers, requests)?;
+        let plan = plan(
+            self.alloc,
+            scene.seed(),
+            client.id(),
+            servers,
+            client.requests(),
+        )?;
         let passes = Vec::with_capacity(self.alloc, servers as usize)?;
         Ok(ClientJob {
             place,
             plan,
-            requests,
-            window: client.window(),
+            client,
             tills,
             passes,
             bell,
@@ -208,12 +211,9 @@ fn new_row(client: ClientId) -> ClientReport
         client,
         sent: 0,
         completed: 0,
+        cost: 0,
         failed: 0,
-        held: StampsHeld {
-            stamps: 0,
-            delta: 0,
-            rho: 0,
-        },
+        held: StampsLeft::default(),
         stop: None,
     }
 }

@@ -21,14 +21,13 @@ use crate::threads::Senders;
 use dmc_book::book::QueueBook;
 use dmc_book::fault::NewFault;
 use dmc_book::pass::WorkerPass;
-use dmc_book::settled::GrantsHeld;
 use dmc_index::index::Indexes;
 use dmc_ledger::desk::ClientDesk;
 use dmc_ledger::mint::Mint;
 use dmc_ledger::setup::Setup;
 use dmc_qlock::lock::{LockedQueue, OfServer};
 use dmc_queue_history::history::EventHistory;
-use dmc_settle::report::{ServerReport, StopCause};
+use dmc_settle::report::{ServerReport, StopCause, UnitsHeld};
 use dmc_shared::witness::{Lasting, Witness};
 use dmc_tag::tag::Tag;
 use dmc_types::config::QueueConfig;
@@ -201,10 +200,7 @@ impl<'a> Opening<'a> {
             reservation: 0,
             priority: 0,
             left: 0,
-            held: GrantsHeld {
-                reservation: 0,
-                priority: 0,
-            },
+            held: UnitsHeld::default(),
             history: EventHistory::new(self.alloc, self.limits.events()).unwrap(),
             stops,
         }

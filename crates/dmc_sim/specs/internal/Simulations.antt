@@ -9,7 +9,7 @@ use Rattle.dmc_core.specs.Core.{CoreValue, RepresentsRun}
 use Rattle.dmc_core.specs.declared.event.CoreEvent.{CoreEvent}
 use Rattle.dmc_core.specs.Events.{cluster_step}
 use Rattle.dmc_sim.specs.Simulation.{Entry, Sim, Returned, after_event, sent_by, completed_by, reserved_by, granted_by, plan_of, servers_of}
-use Rattle.dmc_sim.specs.Reports.{end_of, server_row}
+use Rattle.dmc_sim.specs.Reports.{cost_of, end_of, server_row}
 use Rattle.dmc_sim.specs.declared.client.SimClient.{SimClient}
 use Rattle.dmc_sim.specs.declared.report.ServerReport.{ServerReport}
 use Rattle.dmc_sim.specs.declared.report.SimFault.{SimFault}
@@ -75,5 +75,6 @@ pub record IsAfter {T Q : Type 0} (ops : Tagging T) (state : Q → State T) (eve
 -- the end of the simulation: its clients and servers, and the moment of the last round
 pub record IsLast {T : Type 0} (scene : SceneValue) (clients : List SimClient) (rows : List ServerReport) (end : ℕ) (last : ℕ × Sim T) : Type 0 where
   pub counted : All (IsCounted scene last.1.trace) clients
+  pub costs : All (λ c. c.cost ≡ cost_of last.1.run c.scene.id) clients
   pub rows_are : rows ≡ map (server_row last.1) (servers_of scene)
   pub end_is : end ≡ end_of scene last.0

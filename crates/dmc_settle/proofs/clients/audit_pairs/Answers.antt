@@ -5,9 +5,8 @@ use Rattle.dmc_ledger.specs.Bundles.{ClientSide, ServerSide, client_side, server
 use Rattle.dmc_ledger.specs.declared.desk.ClientDesk.{ClientDesk}
 use Rattle.dmc_ledger.specs.declared.desk.ServerDesk.{ServerDesk}
 use Rattle.dmc_tlock.specs.BookState.{no_side}
-use Rattle.dmc_tlock.specs.Consistent.{responded}
 use Rattle.dmc_book.specs.BookState.{no_desk}
-use Rattle.dmc_settle.specs.internal.Filled.{IsAudited, IsClosing}
+use Rattle.dmc_settle.specs.internal.Filled.{IsAudited, IsClosing, responses_held}
 use Rattle.dmc_settle.specs.internal.Places.{desk_of, sides}
 use Rattle.dmc_settle.specs.declared.clients.TakenIn.{TakenIn}
 use Rattle.dmc_settle.proofs.Holding.{sum_next}
@@ -74,7 +73,7 @@ loop-s-preserved g c =
     let stamps : List ClientSide → ℕ = (λ ds. (get_or ds c.args.client no_desk).held.stamps.amount) in
     let sent_next = sum_next stamps (row_seen g) c.args.desks.now s c.index-desks-s.result c.loop-s-test.true c.index-desks-s.is in
     let here = ap (λ (x : ClientSide). x.held.stamps.amount) (there_is g a) in
-    let completed_next = sum_next responded (side_seen g) c.args.sides.now s c.index-sides-s.result (in_sides g a) c.index-sides-s.is in
+    let completed_next = sum_next responses_held (side_seen g) c.args.sides.now s c.index-sides-s.result (in_sides g a) c.index-sides-s.is in
     let few = closing g a in
     record {
       audited = below_more (λ (k : ℕ). IsAudited (desk_of (map (row_seen g) c.args.desks.now) k c.args.client) (get_or (map (side_seen g) c.args.sides.now) k no_side)) s inv.audited

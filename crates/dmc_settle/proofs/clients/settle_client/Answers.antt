@@ -4,9 +4,8 @@ use Rattle.std.proofs.lemmas.List.{length-map}
 use Rattle.dmc_ledger.specs.Bundles.{ClientSide, ServerSide, server_side}
 use Rattle.dmc_ledger.specs.declared.desk.ServerDesk.{ServerDesk}
 use Rattle.dmc_tlock.specs.BookState.{no_side}
-use Rattle.dmc_tlock.specs.Consistent.{responded}
 use Rattle.dmc_tlock.specs.Settling.{held_of}
-use Rattle.dmc_settle.specs.internal.Filled.{IsAudited, IsClosing, all_held}
+use Rattle.dmc_settle.specs.internal.Filled.{IsAudited, IsClosing, all_held, responses_held}
 use Rattle.dmc_settle.specs.internal.Places.{desk_of, sides}
 use Rattle.dmc_settle.proofs.Balance.{completed_is, held_few, held_is, is_balanced, is_closing}
 use Rattle.dmc_settle.proofs.clients.settle_client.Given.{Over}
@@ -52,8 +51,9 @@ returns-clause-numbers g c =
     let known = c.in-Ok.ensures in
     record {
       sent = c.audit_pairs-taken.ensures.sent;
-      completed = c.audit_pairs-taken.ensures.completed ∙ ap (λ (xs : List (ServerDesk g.row.S.Denot)). sum_by responded (map h xs)) c.deref.ensures.value
+      completed = c.audit_pairs-taken.ensures.completed ∙ ap (λ (xs : List (ServerDesk g.row.S.Denot)). sum_by responses_held (map h xs)) c.deref.ensures.value
           ∙ completed_is c.args.tracker c.args.pass (settled_of g a.After-deref) known.consistent known.gathered known.desks;
+      cost = search rules;
       held = c.sum_held-row.ensures ∙ ap all_held (held g a.After-deref-2) ∙ held_is c.args.pass;
     }
 

@@ -29,9 +29,9 @@ returns-clause-numbers g c =
     record {
       events = c.settle_own-settled.ensures.history ∙ ap (λ n. drop n book.history) c.requires.whole;
       replays = c.settle_own-settled.ensures.replays;
-      reservation = ap (λ (x : Granted). x.reservation) granted ∙ reservations_granted book.history passes book.desks new c.settle_own-settled.ensures.desks ∙ c.settle_own-settled.ensures.grants Reservation;
-      priority = ap (λ (x : Granted). x.priority) granted ∙ priorities_granted book.history passes book.desks new c.settle_own-settled.ensures.desks ∙ c.settle_own-settled.ensures.grants Priority;
+      reservation = ap (λ (x : Granted). x.reservation) granted ∙ reservations_granted book.history passes book.desks new c.settle_own-settled.ensures.desks ∙ (c.settle_own-settled.ensures.grants Reservation).0;
+      priority = ap (λ (x : Granted). x.priority) granted ∙ priorities_granted book.history passes book.desks new c.settle_own-settled.ensures.desks ∙ (c.settle_own-settled.ensures.grants Priority).0;
       left = c.settle_own-settled.ensures.left;
       held = ap (λ (x : Granted). x.held) granted ∙ held_granted book.history passes book.desks new c.settle_own-settled.ensures.desks book.workers c.requires.own.each;
-      of_desks = c.settle_own-settled.ensures.grants;
+      of_desks = λ phase. (c.settle_own-settled.ensures.grants phase).0;
     }

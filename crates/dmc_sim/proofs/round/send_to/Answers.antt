@@ -10,7 +10,7 @@ returns-then-is_tagged-clause-turn g c = λ scene.
     let one : one_if c.is_tagged.result ≡ 1 = ap one_if c.if-is_tagged.true in
     let tagged = ap one_if c.is_tagged.ensures in
     sent_to g.T.Tag.ops state_of scene c.args.at c.args.server c.args.core.now c.ask.new.core c.ask-2.new.core c.args.client.now c.count_sent.new.self c.in_ok-_stamped._stamped c.in_ok-returned.returned
-    (rw c.id-id.ensures at c.in_ok-_stamped.ensures) (rw c.id-id.ensures at c.in_ok-returned.ensures) (record {
+    (rw (c.id-id.ensures, c.cost.ensures.value) at c.in_ok-_stamped.ensures) (rw c.id-id.ensures at c.in_ok-returned.ensures) (record {
       scene = counted.scene;
       plan = counted.plan;
       sent = omega (arith, one, tagged, counted.sent);
@@ -23,7 +23,7 @@ returns-else-is_tagged-clause-turn g c = λ scene.
     let none : one_if c.is_tagged.result ≡ 0 = ap one_if c.if-is_tagged.false in
     let tagged = ap one_if c.is_tagged.ensures in
     sent_to g.T.Tag.ops state_of scene c.args.at c.args.server c.args.core.now c.ask.new.core c.ask-2.new.core c.args.client.now c.args.client.now c.in_ok-_stamped._stamped c.in_ok-returned.returned
-    (rw c.id-id.ensures at c.in_ok-_stamped.ensures) (rw c.id-id.ensures at c.in_ok-returned.ensures) (record {
+    (rw (c.id-id.ensures, c.cost.ensures.value) at c.in_ok-_stamped.ensures) (rw c.id-id.ensures at c.in_ok-returned.ensures) (record {
       scene = refl;
       plan = refl;
       sent = omega (arith, none, tagged);

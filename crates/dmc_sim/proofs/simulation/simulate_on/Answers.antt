@@ -44,7 +44,7 @@ pub returns-clause-simulates : goal.returns-clause-simulates
 returns-clause-simulates g c =
     let a = (goal.at.returns-clause-simulates g c).After-are_complete in
     report_is g.T.Tag.ops c.args.scene.now c.run_scene.new.clients c.run_scene.new.servers c.in_ok-end.end c.in_ok-end.ensures.last (scenes g a)
-    c.put_rows.new.rows.items _ (not c.are_complete.result) (rows g a) (held_servers g a) (ap not (complete g a))
+    c.put_rows.new.rows.items _ (not c.are_complete.result) c.has_costs.result (rows g a) (held_servers g a) (ap not (complete g a)) c.has_costs.ensures
 
 pub returns-clause-rows : goal.returns-clause-rows
 returns-clause-rows g c =

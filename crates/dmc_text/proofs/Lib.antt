@@ -2,6 +2,7 @@ pub mod WordLemmas
 pub mod NumberLemmas
 pub mod TextLemmas
 pub mod LineWords
+pub mod CostLemmas
 pub mod ReplyLemmas
 pub mod WrittenLemmas
 pub mod ReadingLemmas

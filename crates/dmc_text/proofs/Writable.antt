@@ -4,7 +4,7 @@ use Rattle.dmc_types.specs.declared.config.AtLimit.{AtLimit}
 use Rattle.dmc_types.specs.declared.config.AtLimit.TheVariants.{Wait, Allow, Reject}
 use Rattle.dmc_types.specs.declared.refusal.Refusal.{Refusal}
 use Rattle.dmc_types.specs.declared.command.Command.{Command}
-use Rattle.dmc_types.specs.declared.command.Command.TheVariants.{Register, Update, Add, Pull, Remove, Clean}
+use Rattle.dmc_types.specs.declared.command.Command.TheVariants.{Register, Update, Add, Pull, Remove, Cancel, Clean}
 use Rattle.dmc_tag.specs.Tag.{Tagging}
 use Rattle.dmc_tag.specs.Outcome.{◌>>=◌}
 use Rattle.dmc_tag.specs.State.{State, effective, queued_requests}
@@ -49,4 +49,5 @@ writable ops s (Update client info at) = writable_of s (can_update ops s client 
 writable ops s (Add client token params at) = writable_of s (can_add ops s client params (effective s at)) _ (λ a. tt)
 writable ops s (Pull at) = writable_early ops s s (effective s at) (best_of_all ops by_reservation (is_early ops (effective s at)) s.clients)
 writable ops s (Remove client) = writable_of s (can_remove s client) _ (λ a. tt)
+writable ops s (Cancel client token counting) = writable_of s (can_remove s client) _ (λ a. tt)
 writable ops s (Clean at) = tt

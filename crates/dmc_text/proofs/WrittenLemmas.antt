@@ -1,5 +1,5 @@
 -- The lines that are written of a configuration, a command, an event and a segment's header are read again.
-use Rattle.std.proofs.Common.{◌≡◌, ℕ, ◌^◌, ◌<◌, ◌≤◌, ℤ, Bool, true, false, cond, ltb, leb, List, [], ◌∷◌, ◌++◌, length, length-append, append-nil, append_assoc, refl, sym, ap, subst, ◌∙◌, arith, Option, Some, None, Result, Ok, Err}
+use Rattle.std.proofs.Common.{◌≡◌, ℕ, ◌^◌, ◌<◌, ◌≤◌, ℤ, Bool, true, false, cond, ltb, leb, eqb, List, [], ◌∷◌, ◌++◌, length, length-append, append-nil, append_assoc, refl, sym, ap, subst, ◌∙◌, arith, Option, Some, None, Result, Ok, Err}
 use Rattle.std.specs.Prelude.{codes, IfSome, OnOk}
 use Rattle.std.specs.Io.KnownBytes.{Appends}
 use Rattle.std.proofs.KnownBytes.{Appends-trans}
@@ -8,19 +8,21 @@ use Rattle.std.specs.List.{join_with_byte}
 use Rattle.std.specs.Option.{ok_or}
 use Rattle.std.specs.Str.{bytes_eq}
 use Rattle.std.specs.Fmt.{decimal}
-use Rattle.std.proofs.lemmas.Bool.{le-leb}
+use Rattle.std.proofs.lemmas.Bool.{le-leb, eqb-true}
 use Rattle.std.proofs.lemmas.Bool.Decides.{nat_tests}
 use Rattle.dmc_types.specs.Limits.{max_hz, max_moment, max_line_bytes}
 use Rattle.dmc_types.specs.Values.{Params, Rates, Setting, IsRate, AreRates, IsSetting, threshold_of}
 use Rattle.dmc_types.specs.declared.config.AtLimit.{AtLimit}
 use Rattle.dmc_types.specs.declared.config.AtLimit.TheVariants.{Wait, Allow, Reject}
+use Rattle.dmc_types.specs.declared.config.Counting.{Counting}
+use Rattle.dmc_types.specs.declared.config.Counting.TheVariants.{All, Others}
 use Rattle.dmc_types.specs.declared.config.Shares.{Shares}
 use Rattle.dmc_types.specs.declared.config.Shares.TheVariants.{Clock, Virtual}
 use Rattle.dmc_types.specs.declared.ids.ClientId.{ClientId}
 use Rattle.dmc_types.specs.declared.ids.ServerId.{ServerId}
 use Rattle.dmc_types.specs.declared.ids.Token.{Token}
 use Rattle.dmc_types.specs.declared.command.Command.{Command}
-use Rattle.dmc_types.specs.declared.command.Command.TheVariants.{Register, Update, Add, Pull, Remove, Clean}
+use Rattle.dmc_types.specs.declared.command.Command.TheVariants.{Register, Update, Add, Pull, Remove, Cancel, Clean}
 use Rattle.dmc_tag.specs.declared.reply.Reply.{Reply}
 use Rattle.dmc_tag.specs.declared.reply.Reply.TheVariants.{Registered, Updated, Tagged, Granted, Later, Nothing, Removed, Cleaned, Refused}
 use Rattle.dmc_tag.specs.declared.event.Event.{Event}
@@ -32,13 +34,14 @@ use Rattle.dmc_text.specs.declared.event_line.EventLine.TheVariants as event_lin
 use Rattle.dmc_text.specs.Answers.{◌>>=◌}
 use Rattle.dmc_text.specs.Words.{words}
 use Rattle.dmc_text.specs.Lines.{kind, kind_of, line_of_kind, line_of, line_of_words, line_of_command, alone, heading, setting, figure, configured, is_reject, is_virtual}
-use Rattle.dmc_text.specs.Commands.{registering, updating, adding, pulling, dropping, cleaning, phrase, command, small, long, optional, moment, params, rates, is_rate}
+use Rattle.dmc_text.specs.Commands.{registering, updating, adding, pulling, dropping, cancelling, cleaning, counting_named, phrase, command, small, long, optional, moment, params, cost_word, cost, rates, is_rate}
 use Rattle.dmc_text.specs.Replies.{saying, reply_said, reply_words, reply_text, reply_of}
 use Rattle.dmc_text.specs.EventLines.{answer_words, event_words as words_of_event, event_said, event_line_of_kind, event_of, header_words as words_of_header, header_said, header_of}
 use Rattle.dmc_text.specs.RoundTrip.{AreWords, IsReadBack, IsAskedAgain, IsHeaderAgain}
 use Rattle.dmc_text.specs.internal.RoundTrip.{IsInfoAgain}
-use Rattle.dmc_text.specs.Written.{config_words, config_text, limit_words, shares_words, rate_word, command_words, command_text, event_words, event_text, header_words}
+use Rattle.dmc_text.specs.Written.{config_words, config_text, limit_words, shares_words, rate_word, counting_word, command_words, command_text, event_words, event_text, header_words}
 use Rattle.dmc_text.proofs.TextLemmas.{words_joined, number_again}
+use Rattle.dmc_text.proofs.CostLemmas.{word_of, cost_again, with_cost}
 use Rattle.dmc_text.proofs.LineWords.{given, shorter, and_more, and_some, both_some, join_some, number_word, small_word, apart, decimal_means, is_line}
 
 -- ---- numbers
@@ -91,36 +94,47 @@ info_again client info at id reserved weighed limited are last =
 
 -- ---- commands
 
+units_by : (units : ℕ) (one : Bool) → eqb units 1 ≡ one → units < 2 ^ 32 → cost_word (word_of units) ≡ Ok units
+unfolding cost_word
+units_by units true e h = rw e (ap Ok (sym (eqb-true units 1 e)))
+units_by units false e h = rw e (small_again units h)
+
+units_again : (units : ℕ) → units < 2 ^ 32 → cost_word (word_of units) ≡ Ok units
+units_again units h = units_by units (eqb units 1) refl h
+
 pub asked_register : (client : ClientId) (info : Rates) (at : ℕ) → IsInfoAgain client info at → IsAskedAgain (Register client info at)
 unfolding phrase command
 asked_register client info at i = record {
   said = registering (decimal client.0) (rate_word info.reservation) (decimal info.weight) (rate_word info.limit) (decimal at);
-  said_by = λ behind. refl;
+  said_by = λ behind apart. refl;
   read = i.read Register;
-  of_words = and_more 6 63 (given 6 (codes "client" ∷ []) refl refl refl) i.of_words;
+  of_words = shorter 70 83 (and_more 6 63 (given 6 (codes "client" ∷ []) refl refl refl) i.of_words) (omega arith);
 }
 
 pub asked_update : (client : ClientId) (info : Rates) (at : ℕ) → IsInfoAgain client info at → IsAskedAgain (Update client info at)
 unfolding phrase command
 asked_update client info at i = record {
   said = updating (decimal client.0) (rate_word info.reservation) (decimal info.weight) (rate_word info.limit) (decimal at);
-  said_by = λ behind. refl;
+  said_by = λ behind apart. refl;
   read = i.read Update;
-  of_words = and_more 6 63 (given 6 (codes "update" ∷ []) refl refl refl) i.of_words;
+  of_words = shorter 70 83 (and_more 6 63 (given 6 (codes "update" ∷ []) refl refl refl) i.of_words) (omega arith);
 }
 
-pub asked_add : (client : ClientId) (token : Token) (counts : Params) (at : ℕ) → client.0 < 2 ^ 32 → token.0 < 2 ^ 32 → counts.delta < 2 ^ 32 → counts.rho ≤ counts.delta → at ≤ max_moment
+pub asked_add : (client : ClientId) (token : Token) (counts : Params) (at : ℕ) → client.0 < 2 ^ 32 → token.0 < 2 ^ 32 → counts.delta < 2 ^ 32 → counts.rho ≤ counts.delta → 0 < counts.cost → counts.cost < 2 ^ 32 → at ≤ max_moment
     → IsAskedAgain (Add client token counts at)
-unfolding phrase command moment params
-asked_add client token counts at id name many fewer last =
+unfolding phrase command moment params cost
+asked_add client token counts at id name many fewer some small last =
     let within : leb at max_moment ≡ true = le-leb at max_moment last in
     let few : counts.rho < 2 ^ 32 = omega (arith, many, fewer) in
+    let charged : ltb 0 counts.cost ≡ true = grind (arith, nat_tests, some) in
     let numbers = and_more 10 41 (small_word token.0 name) (and_more 10 30 (small_word counts.delta many) (and_more 10 19 (small_word counts.rho few) (moment_word at last))) in
     record {
-      said = adding (decimal client.0) (decimal token.0) (decimal counts.delta) (decimal counts.rho) (decimal at);
-      said_by = λ behind. refl;
-      read = rw (small_again client.0 id, small_again token.0 name, small_again counts.delta many, small_again counts.rho few, long_again at (omega (arith, last)), within, le-leb counts.rho counts.delta fewer) refl;
-      of_words = shorter 67 70 (and_more 3 63 (given 3 (codes "add" ∷ []) refl refl refl) (and_more 10 52 (small_word client.0 id) numbers)) (omega arith);
+      said = adding (decimal client.0) (decimal token.0) (decimal counts.delta) (decimal counts.rho) (decimal at) (word_of counts.cost);
+      said_by = λ behind apart.
+          ap (λ r. r >>= λ x. Ok (adding (decimal client.0) (decimal token.0) (decimal counts.delta) (decimal counts.rho) (decimal at) x.0, x.1)) (cost_again counts.cost behind apart);
+      read = rw (small_again client.0 id, small_again token.0 name, small_again counts.delta many, small_again counts.rho few, long_again at (omega (arith, last)), units_again counts.cost small, within, le-leb counts.rho counts.delta fewer, charged) refl;
+      of_words = with_cost 67 counts.cost (codes "add" ∷ decimal client.0 ∷ decimal token.0 ∷ decimal counts.delta ∷ decimal counts.rho ∷ decimal at ∷ []) (omega arith) small
+          (and_more 3 63 (given 3 (codes "add" ∷ []) refl refl refl) (and_more 10 52 (small_word client.0 id) numbers));
     }
 
 pub asked_pull : (at : ℕ) → at ≤ max_moment → IsAskedAgain (Pull at)
@@ -129,9 +143,9 @@ asked_pull at last =
     let within : leb at max_moment ≡ true = le-leb at max_moment last in
     record {
       said = pulling (decimal at);
-      said_by = λ behind. refl;
+      said_by = λ behind apart. refl;
       read = rw (long_again at (omega (arith, last)), within) refl;
-      of_words = shorter 24 70 (and_more 4 19 (given 4 (codes "pull" ∷ []) refl refl refl) (moment_word at last)) (omega arith);
+      of_words = shorter 24 83 (and_more 4 19 (given 4 (codes "pull" ∷ []) refl refl refl) (moment_word at last)) (omega arith);
     }
 
 pub asked_clean : (at : ℕ) → at ≤ max_moment → IsAskedAgain (Clean at)
@@ -140,18 +154,36 @@ asked_clean at last =
     let within : leb at max_moment ≡ true = le-leb at max_moment last in
     record {
       said = cleaning (decimal at);
-      said_by = λ behind. refl;
+      said_by = λ behind apart. refl;
       read = rw (long_again at (omega (arith, last)), within) refl;
-      of_words = shorter 25 70 (and_more 5 19 (given 5 (codes "clean" ∷ []) refl refl refl) (moment_word at last)) (omega arith);
+      of_words = shorter 25 83 (and_more 5 19 (given 5 (codes "clean" ∷ []) refl refl refl) (moment_word at last)) (omega arith);
     }
 
 pub asked_drop : (client : ClientId) → client.0 < 2 ^ 32 → IsAskedAgain (Remove client)
 unfolding phrase command
 asked_drop client id = record {
   said = dropping (decimal client.0);
-  said_by = λ behind. refl;
+  said_by = λ behind apart. refl;
   read = rw (small_again client.0 id) refl;
-  of_words = shorter 15 70 (and_more 4 10 (given 4 (codes "drop" ∷ []) refl refl refl) (small_word client.0 id)) (omega arith);
+  of_words = shorter 15 83 (and_more 4 10 (given 4 (codes "drop" ∷ []) refl refl refl) (small_word client.0 id)) (omega arith);
+}
+
+counting_again : (counting : Counting) → counting_named (counting_word counting) ≡ Some counting
+counting_again All = refl
+counting_again Others = refl
+
+counting_fits : (counting : Counting) → AreWords 6 (counting_word counting ∷ [])
+counting_fits All = given 6 (codes "all" ∷ []) refl refl refl
+counting_fits Others = given 6 (codes "others" ∷ []) refl refl refl
+
+pub asked_cancel : (client : ClientId) (token : Token) (counting : Counting) → client.0 < 2 ^ 32 → token.0 < 2 ^ 32 → IsAskedAgain (Cancel client token counting)
+unfolding phrase command
+asked_cancel client token counting id name = record {
+  said = cancelling (decimal client.0) (decimal token.0) counting;
+  said_by = λ behind apart. ap (λ o. ok_or o causes.Words >>= λ counting. Ok (cancelling (decimal client.0) (decimal token.0) counting, behind)) (counting_again counting);
+  read = rw (small_again client.0 id, small_again token.0 name) refl;
+  of_words = shorter 35 83 (and_more 6 28 (given 6 (codes "cancel" ∷ []) refl refl refl)
+      (and_more 10 17 (small_word client.0 id) (and_more 10 6 (small_word token.0 name) (counting_fits counting)))) (omega arith);
 }
 
 -- ---- lines
@@ -168,15 +200,16 @@ command_kind (Update client info at) = refl
 command_kind (Add client token counts at) = refl
 command_kind (Pull at) = refl
 command_kind (Remove client) = refl
+command_kind (Cancel client token counting) = refl
 command_kind (Clean at) = refl
 
 pub line_again : (c : Command) → IsAskedAgain c → line_of true (command_text c) ≡ Ok (Ask c)
 unfolding line_of_words
 line_again c a =
     let ws : List (List ℕ) = command_words c in
-    let fits : AreWords max_line_bytes ws = shorter 70 256 a.of_words (omega arith) in
+    let fits : AreWords max_line_bytes ws = shorter 83 256 a.of_words (omega arith) in
     let nothing : ws ++ [] ≡ ws = append-nil ws in
-    let spoken : phrase ws ≡ Ok (a.said, []) = ap phrase (sym nothing) ∙ a.said_by [] in
+    let spoken : phrase ws ≡ Ok (a.said, []) = ap phrase (sym nothing) ∙ a.said_by [] refl in
     ap (λ k. k >>= λ x. line_of_kind x (words (command_text c))) (kind_by true ws fits ∙ command_kind c)
     ∙ ap line_of_words (words_joined ws fits.plain)
     ∙ ap (λ p. p >>= λ x. alone x >>= λ q. line_of_command (command q)) spoken
@@ -322,6 +355,7 @@ command_some (Update client info at) = omega arith
 command_some (Add client token counts at) = omega arith
 command_some (Pull at) = omega arith
 command_some (Remove client) = omega arith
+command_some (Cancel client token counting) = omega arith
 command_some (Clean at) = omega arith
 
 -- the first word is a number, so the line is a command's
@@ -335,7 +369,7 @@ module _ {T : Type 0} (made : ℤ → ℕ → Option T) (text : T → List ℕ) 
   reply_some Registered = omega arith
   reply_some Updated = omega arith
   reply_some (Tagged t) = omega arith
-  reply_some (Granted client token phase beyond) = omega arith
+  reply_some (Granted client token phase beyond cost) = omega arith
   reply_some (Later m) = omega arith
   reply_some Nothing = omega arith
   reply_some (Removed n) = omega arith
@@ -351,9 +385,9 @@ module _ {T : Type 0} (made : ℤ → ℕ → Option T) (text : T → List ℕ) 
 
   event_fits : (e : Event T) → e.worker.0 < 2 ^ 32 → IsAskedAgain e.command → IsReadBack made text e.reply → AreWords max_line_bytes (event_words text e)
   event_fits e id a r =
-      let replied = and_some 1 160 (codes "=") (reply_words text e.reply) (reply_some e.reply) (given 1 (codes "=" ∷ []) refl refl refl) r.of_words in
-      let both = both_some 70 162 (command_words e.command) (codes "=" ∷ reply_words text e.reply) (command_some e.command) (omega arith) a.of_words replied in
-      shorter 244 256 (and_some 10 233 (decimal e.worker.0) (behind e) (behind_some e) (small_word e.worker.0 id) both) (omega arith)
+      let replied = and_some 1 127 (codes "=") (reply_words text e.reply) (reply_some e.reply) (given 1 (codes "=" ∷ []) refl refl refl) r.of_words in
+      let both = both_some 83 129 (command_words e.command) (codes "=" ∷ reply_words text e.reply) (command_some e.command) (omega arith) a.of_words replied in
+      shorter 224 256 (and_some 10 213 (decimal e.worker.0) (behind e) (behind_some e) (small_word e.worker.0 id) both) (omega arith)
 
   -- the event of its words
   event_read : (e : Event T) → e.worker.0 < 2 ^ 32 → IsAskedAgain e.command → IsReadBack made text e.reply → (words_of_event (event_words text e) >>= event_said made) ≡ Ok e
@@ -361,7 +395,7 @@ module _ {T : Type 0} (made : ℤ → ℕ → Option T) (text : T → List ℕ) 
   event_read e id a r =
       let same : words (reply_text text e.reply) ≡ reply_words text e.reply = words_joined (reply_words text e.reply) r.of_words.plain in
       let b = bound (saying (reply_words text e.reply)) (reply_said made) e.reply (ap (reply_of made) (sym same) ∙ r.read) in
-      rw (a.said_by (codes "=" ∷ reply_words text e.reply), b.ok, number_again (2 ^ 32) e.worker.0 id (omega (arith, id)), a.read, b.next) refl
+      rw (a.said_by (codes "=" ∷ reply_words text e.reply) refl, b.ok, number_again (2 ^ 32) e.worker.0 id (omega (arith, id)), a.read, b.next) refl
 
   pub event_again : (e : Event T) → e.worker.0 < 2 ^ 32 → IsAskedAgain e.command → IsReadBack made text e.reply → event_of made true (event_text text e) ≡ Ok (event_lines.Event e)
   event_again e id a r =

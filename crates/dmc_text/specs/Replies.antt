@@ -1,7 +1,7 @@
 -- The texts of replies: words, separated by one space each.
-use Rattle.std.specs.Prelude.{◌≡◌, ℕ, ◌^◌, ℤ, Bool, true, false, ◌&&◌, List, [], ◌∷◌, Option, Some, None, option_and_then, Result, Ok, Err, if◌then◌else◌, codes}
+use Rattle.std.specs.Prelude.{◌≡◌, ℕ, ◌==◌, ◌^◌, ℤ, Bool, true, false, ◌&&◌, List, [], ◌∷◌, ◌++◌, Option, Some, None, option_and_then, Result, Ok, Err, nat_lt, if◌then◌else◌, codes}
 use Rattle.std.specs.List.{join_with_byte}
-use Rattle.std.specs.Option.{ok_or}
+use Rattle.std.specs.Option.{ok_or, option_map}
 use Rattle.std.specs.Str.{bytes_eq}
 use Rattle.std.specs.Fmt.{decimal}
 use Rattle.dmc_types.specs.declared.config.PhaseType.{PhaseType}
@@ -20,6 +20,7 @@ use Rattle.dmc_text.specs.declared.reply.ReplyWords.{ReplyWords}
 use Rattle.dmc_text.specs.declared.reply.ReplyWords.TheVariants as shown
 use Rattle.dmc_text.specs.Numbers.{number}
 use Rattle.dmc_text.specs.Tags.{fraction_text, fraction_of}
+use Rattle.dmc_text.specs.Commands.{cost_behind}
 use Rattle.dmc_text.specs.Answers.{◌>>=◌}
 
 -- ---- writing
@@ -45,6 +46,10 @@ grant_words phases.Reservation beyond = codes "reservation" ∷ []
 grant_words phases.Priority false = codes "priority" ∷ []
 grant_words phases.Priority true = codes "priority" ∷ codes "beyond" ∷ []
 
+-- a cost of 1 is not written
+abbrev pub cost_words : ℕ → List (List ℕ)
+cost_words cost = if cost == 1 then [] else codes "cost" ∷ decimal cost ∷ []
+
 -- `-` if there is no tag
 abbrev pub tag_word : {T : Type 0} → (T → List ℕ) → Option T → List ℕ
 tag_word text None = codes "-"
@@ -55,7 +60,7 @@ abbrev pub reply_words : {T : Type 0} → (T → List ℕ) → Reply T → List 
 reply_words text Registered = codes "ok" ∷ []
 reply_words text Updated = codes "updated" ∷ []
 reply_words text (Tagged t) = codes "tags" ∷ tag_word text t.r ∷ text t.l ∷ text t.p ∷ []
-reply_words text (Granted client token phase beyond) = codes "grant" ∷ decimal client.0 ∷ decimal token.0 ∷ grant_words phase beyond
+reply_words text (Granted client token phase beyond cost) = codes "grant" ∷ decimal client.0 ∷ decimal token.0 ∷ grant_words phase beyond ++ cost_words cost
 reply_words text (Later m) = codes "future" ∷ decimal m ∷ []
 reply_words text Nothing = codes "none" ∷ []
 reply_words text (Removed n) = codes "dropped" ∷ decimal n ∷ []
@@ -84,7 +89,7 @@ IsPhase phases.Reservation beyond = beyond ≡ false
 IsPhase phases.Priority beyond = Unit {0}
 
 abbrev pub IsWritable : {T : Type 0} → Reply T → Type 0
-IsWritable (Granted client token phase beyond) = IsPhase phase beyond
+IsWritable (Granted client token phase beyond cost) = IsPhase phase beyond
 IsWritable reply = Unit {0}
 
 -- ---- reading: words
@@ -94,7 +99,7 @@ pub data Saying : Type 0 where
   registered : Saying
   updated : Saying
   tagged : (r l p : List ℕ) → Saying
-  granted : (client token : List ℕ) → PhaseType → Bool → Saying
+  granted : (client token : List ℕ) → PhaseType → Bool → (cost : Option (List ℕ)) → Saying
   later : (m : List ℕ) → Saying
   nothing : Saying
   removed : (n : List ℕ) → Saying
@@ -130,19 +135,22 @@ abbrev pub three_more : (List ℕ → List ℕ → List ℕ → Saying) → List
 three_more s [] = Err Words
 three_more s (a ∷ ws) = two_more (s a) ws
 
--- the phase of a grant, and whether it is beyond its limit
-abbrev pub phase_of : List (List ℕ) → Result (PhaseType × Bool) LineCause
+-- whether `beyond` is the next word, and the words after it
+abbrev pub beyond_behind : List (List ℕ) → Bool × List (List ℕ)
+beyond_behind [] = (false, [])
+beyond_behind (w ∷ ws) = if bytes_eq w (codes "beyond") then (true, ws) else (false, w ∷ ws)
+
+-- the phase of a grant, whether it is beyond its limit, and the words after them
+abbrev pub phase_of : List (List ℕ) → Result (PhaseType × Bool × List (List ℕ)) LineCause
 phase_of [] = Err Words
-phase_of (w ∷ []) =
-    if bytes_eq w (codes "reservation") then Ok (phases.Reservation, false)
-    else (if bytes_eq w (codes "priority") then Ok (phases.Priority, false) else Err Words)
-phase_of (w ∷ b ∷ []) = if bytes_eq w (codes "priority") && bytes_eq b (codes "beyond") then Ok (phases.Priority, true) else Err Words
-phase_of (w ∷ b ∷ c ∷ ws) = Err Words
+phase_of (w ∷ ws) =
+    if bytes_eq w (codes "reservation") then Ok (phases.Reservation, false, ws)
+    else (if bytes_eq w (codes "priority") then Ok (phases.Priority, (beyond_behind ws).0, (beyond_behind ws).1) else Err Words)
 
 abbrev pub grant_of : List (List ℕ) → Result Saying LineCause
 grant_of [] = Err Words
 grant_of (c ∷ []) = Err Words
-grant_of (c ∷ k ∷ ws) = phase_of ws >>= λ x. Ok (granted c k x.0 x.1)
+grant_of (c ∷ k ∷ ws) = phase_of ws >>= λ x. cost_behind x.2 >>= λ y. no_more (granted c k x.0 x.1 y.0) y.1
 
 abbrev pub field_of : List ℕ → Result Field LineCause
 field_of w =
@@ -198,6 +206,15 @@ tag made word = ok_or (option_and_then (λ x. made x.0 x.1) (fraction_of word)) 
 unfoldable pub optional_tag : {T : Type 0} → (ℤ → ℕ → Option T) → List ℕ → Result (Option T) LineCause
 optional_tag made word = if bytes_eq word (codes "-") then Ok None else (tag made word >>= λ a. Ok (Some a))
 
+-- no cost is 0
+unfoldable pub cost_of : ℕ → Result ℕ LineCause
+cost_of units = if nat_lt 0 units then Ok units else Err Number
+
+-- the cost, which is 1 where no word says it
+unfoldable pub cost_said : Option (List ℕ) → Result ℕ LineCause
+cost_said None = Ok 1
+cost_said (Some word) = count word >>= cost_of
+
 -- the reply of words
 unfoldable pub reply_said : {T : Type 0} → (ℤ → ℕ → Option T) → Saying → Result (Reply T) LineCause
 reply_said made registered = Ok Registered
@@ -207,10 +224,11 @@ reply_said made (tagged r l p) = do
   l' ← tag made l
   p' ← tag made p
   Ok (Tagged (record { r = r'; l = l'; p = p' }))
-reply_said made (granted c k phase beyond) = do
+reply_said made (granted c k phase beyond n) = do
   client ← count c
   token ← count k
-  Ok (Granted (record { 0 = client }) (record { 0 = token }) phase beyond)
+  cost ← cost_said n
+  Ok (Granted (record { 0 = client }) (record { 0 = token }) phase beyond cost)
 reply_said made (later m) = instant m >>= λ at. Ok (Later at)
 reply_said made nothing = Ok Nothing
 reply_said made (removed n) = count n >>= λ k. Ok (Removed k)
@@ -230,7 +248,7 @@ abbrev pub seen_reply : ReplyWords → Saying
 seen_reply shown.Registered = registered
 seen_reply shown.Updated = updated
 seen_reply (shown.Tagged t) = tagged t.r.now t.l.now t.p.now
-seen_reply (shown.Granted client token phase beyond) = granted client.now token.now phase beyond
+seen_reply (shown.Granted client token phase beyond cost) = granted client.now token.now phase beyond (option_map (λ word. word.now) cost)
 seen_reply (shown.Later m) = later m.now
 seen_reply shown.Nothing = nothing
 seen_reply (shown.Removed n) = removed n.now

@@ -1,6 +1,7 @@
 -- What was written of a reply, a configuration, a command, an event or a segment's header is read as that.
-use Rattle.std.specs.Prelude.{◌≡◌, ℕ, ◌≤◌, ℤ, Bool, true, not, ◌&&◌, List, ◌++◌, length, Option, Some, Ok}
+use Rattle.std.specs.Prelude.{◌≡◌, ℕ, ◌≤◌, ℤ, Bool, true, false, not, ◌&&◌, List, [], ◌∷◌, ◌++◌, length, Option, Some, Ok, codes}
 use Rattle.std.specs.List.{list_all, join_with_byte}
+use Rattle.std.specs.Str.{bytes_eq}
 use Rattle.dmc_types.specs.declared.ids.ServerId.{ServerId}
 use Rattle.dmc_types.specs.declared.command.Command.{Command}
 use Rattle.dmc_tag.specs.declared.reply.Reply.{Reply}
@@ -30,14 +31,19 @@ pub record AreWords (most : ℕ) (ws : List (List ℕ)) : Type 0 where
 -- the reply is read from its text, which leaves room in a line for a worker and a command
 pub record IsReadBack {T : Type 0} (made : ℤ → ℕ → Option T) (text : T → List ℕ) (reply : Reply T) : Type 0 where
   pub read : reply_of made (words (reply_text text reply)) ≡ Ok reply
-  pub of_words : AreWords 160 (reply_words text reply)
+  pub of_words : AreWords 127 (reply_words text reply)
 
--- the command is read from its words, whatever follows them
+-- whether the first of these words is `cost`
+abbrev pub begins_with_cost : List (List ℕ) → Bool
+begins_with_cost [] = false
+begins_with_cost (w ∷ ws) = bytes_eq w (codes "cost")
+
+-- the command is read from its words, whatever follows them but `cost`
 pub record IsAskedAgain (asked : Command) : Type 0 where
   pub said : Phrase
-  pub said_by : (behind : List (List ℕ)) → phrase (command_words asked ++ behind) ≡ Ok (said, behind)
+  pub said_by : (behind : List (List ℕ)) → begins_with_cost behind ≡ false → phrase (command_words asked ++ behind) ≡ Ok (said, behind)
   pub read : command said ≡ Ok asked
-  pub of_words : AreWords 70 (command_words asked)
+  pub of_words : AreWords 83 (command_words asked)
 
 -- ---- headers of segments
 

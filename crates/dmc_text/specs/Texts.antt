@@ -68,12 +68,18 @@ fault_of text = first_fault false 1 (lines_of text)
 abbrev pub value_text : ValueFault → List ℕ
 value_text faults.Moment = codes "refused moment"
 value_text faults.Params = codes "refused params"
+value_text faults.Cost = codes "refused cost"
 value_text faults.Rate = codes "refused rate"
 value_text faults.Config = codes "refused config"
 
 -- a line with the LF that ends it
 abbrev pub with_line_end : List ℕ → List ℕ
 with_line_end line = line ++ 10 ∷ []
+
+-- a text of these lines
+abbrev pub text_of : List (List ℕ) → List ℕ
+text_of [] = []
+text_of (line ∷ lines) = with_line_end line ++ text_of lines
 
 -- what is written for lines, from a state on; there is none before the hz line
 abbrev pub written : {T : Type 0} → Tagging T → (T → List ℕ) → Option (State T) → List Line → List ℕ

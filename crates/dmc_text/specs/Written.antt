@@ -5,13 +5,15 @@ use Rattle.std.specs.Fmt.{decimal}
 use Rattle.dmc_types.specs.Values.{Rates, Setting}
 use Rattle.dmc_types.specs.declared.config.AtLimit.{AtLimit}
 use Rattle.dmc_types.specs.declared.config.AtLimit.TheVariants.{Wait, Allow, Reject}
+use Rattle.dmc_types.specs.declared.config.Counting.{Counting}
+use Rattle.dmc_types.specs.declared.config.Counting.TheVariants.{All, Others}
 use Rattle.dmc_types.specs.declared.config.Shares.{Shares}
 use Rattle.dmc_types.specs.declared.config.Shares.TheVariants.{Clock, Virtual}
 use Rattle.dmc_types.specs.declared.ids.ClientId.{ClientId}
 use Rattle.dmc_types.specs.declared.command.Command.{Command}
-use Rattle.dmc_types.specs.declared.command.Command.TheVariants.{Register, Update, Add, Pull, Remove, Clean}
+use Rattle.dmc_types.specs.declared.command.Command.TheVariants.{Register, Update, Add, Pull, Remove, Cancel, Clean}
 use Rattle.dmc_tag.specs.declared.event.Event.{Event}
-use Rattle.dmc_text.specs.Replies.{reply_words}
+use Rattle.dmc_text.specs.Replies.{cost_words, reply_words}
 
 -- ---- the configuration
 
@@ -44,12 +46,18 @@ rate_word (Some q) = decimal q
 abbrev pub info_words : ClientId → Rates → ℕ → List (List ℕ)
 info_words client info at = decimal client.0 ∷ rate_word info.reservation ∷ decimal info.weight ∷ rate_word info.limit ∷ decimal at ∷ []
 
+-- the word of a form of counting
+abbrev pub counting_word : Counting → List ℕ
+counting_word All = codes "all"
+counting_word Others = codes "others"
+
 abbrev pub command_words : Command → List (List ℕ)
 command_words (Register client info at) = codes "client" ∷ info_words client info at
 command_words (Update client info at) = codes "update" ∷ info_words client info at
-command_words (Add client token params at) = codes "add" ∷ decimal client.0 ∷ decimal token.0 ∷ decimal params.delta ∷ decimal params.rho ∷ decimal at ∷ []
+command_words (Add client token params at) = codes "add" ∷ decimal client.0 ∷ decimal token.0 ∷ decimal params.delta ∷ decimal params.rho ∷ decimal at ∷ cost_words params.cost
 command_words (Pull at) = codes "pull" ∷ decimal at ∷ []
 command_words (Remove client) = codes "drop" ∷ decimal client.0 ∷ []
+command_words (Cancel client token counting) = codes "cancel" ∷ decimal client.0 ∷ decimal token.0 ∷ counting_word counting ∷ []
 command_words (Clean at) = codes "clean" ∷ decimal at ∷ []
 
 abbrev pub command_text : Command → List ℕ

@@ -1,14 +1,17 @@
 //! The commands of a line. All its words are checked before any is read as a number.
 ghost use Rattle.std.specs.Prelude.{◌≡◌, ℕ, List, ◌∷◌, [], MatchResult};
 ghost use Rattle.dmc_text.specs.Words.{words};
+ghost use Rattle.std.specs.Option.{option_map};
 ghost use Rattle.dmc_text.specs.Answers.{Gives};
 ghost use Rattle.dmc_types.specs.Values.{Rates};
-ghost use Rattle.dmc_text.specs.Commands.{phrase_of, Phrase, registering, updating, adding, verb_of, with_five, phrase, small, long, optional, with_info, with_params, at_moment, command, seen};
+ghost use Rattle.dmc_text.specs.Commands.{phrase_of, Phrase, registering, updating, add_phrase, cost_behind, cost_word, cancel_phrase, counting_named, verb_of, with_five, phrase, small, long, optional, with_info, with_params, with_token, at_moment, command, seen};
 
 use crate::cause::LineCause;
 use crate::number::{read_u32, read_u64};
 use crate::word::{first_word, spells};
 use dmc_types::command::Command;
+use dmc_types::config::Counting;
+use dmc_types::cost::Cost;
 use dmc_types::ids::{ClientId, Token};
 use dmc_types::info::ClientInfo;
 use dmc_types::moment::Moment;
@@ -23,6 +26,7 @@ pub enum Verb {
     Add,
     Pull,
     Drop,
+    Cancel,
     Clean,
 }
 
@@ -44,6 +48,15 @@ pub struct AddWords<'a> {
     pub delta: &'a [u8],
     pub rho: &'a [u8],
     pub at: &'a [u8],
+    pub cost: Option<&'a [u8]>,
+}
+
+/// The words after `cancel`, of which the last is read as a form of counting.
+#[derive(Clone, Copy)]
+pub struct CancelWords<'a> {
+    pub client: &'a [u8],
+    pub token: &'a [u8],
+    pub counting: Counting,
 }
 
 /// A command whose words are not yet read as numbers.
@@ -54,6 +67,7 @@ pub enum CommandWords<'a> {
     Add(AddWords<'a>),
     Pull(&'a [u8]),
     Remove(&'a [u8]),
+    Cancel(CancelWords<'a>),
     Clean(&'a [u8]),
 }
 
@@ -62,7 +76,7 @@ pub enum CommandWords<'a> {
 pub enum CommandFault {
     /// A word that has to be a number is not one of its type.
     Number,
-    /// A value is out of its limits: the moment, and then the params or a rate.
+    /// A value is out of its limits: the moment, and then the params and the cost, or a rate.
     Value(ValueFault),
 }
 
@@ -90,6 +104,8 @@ fn verb_of(word: &[u8]) -> Option<Verb>
         Some(Verb::Pull)
     } else if spells(word, b"drop") {
         Some(Verb::Drop)
+    } else if spells(word, b"cancel") {
+        Some(Verb::Cancel)
     } else if spells(word, b"clean") {
         Some(Verb::Clean)
     } else {
@@ -147,25 +163,71 @@ fn update_words<'a>(
     Ok((CommandWords::Update(info), rest))
 }
 
+/// The word behind `cost`, if that is the next word, and what follows. The cause is `Words` if nothing is behind it.
+pub fn cost_behind(text: &[u8]) -> Result<(Option<&[u8]>, &[u8]), LineCause>
+    ensures { Gives (λ x. (option_map (λ word. word.now) x.0, words x.1.now)) result (cost_behind (words text.now)) }
+{
+    match first_word(text) {
+        Some((name, rest)) if spells(name, b"cost") => {
+            let (units, rest) = next_word(rest)?;
+            Ok((Some(units), rest))
+        }
+        _ => Ok((None, text)),
+    }
+}
+
 /// The words of `add`, and what follows them.
 fn add_words<'a>(
     client: &'a [u8],
     text: &'a [u8],
 ) -> Result<(CommandWords<'a>, &'a [u8]), LineCause>
-    ensures { Gives (λ x. (seen x.0, words x.1.now)) result (with_five adding (client.now ∷ words text.now)) }
+    ensures { Gives (λ x. (seen x.0, words x.1.now)) result (add_phrase (client.now ∷ words text.now)) }
 {
     let (token, rest) = next_word(text)?;
     let (delta, rest) = next_word(rest)?;
     let (rho, rest) = next_word(rest)?;
     let (at, rest) = next_word(rest)?;
+    let (cost, rest) = cost_behind(rest)?;
     let add = AddWords {
         client,
         token,
         delta,
         rho,
         at,
+        cost,
     };
     Ok((CommandWords::Add(add), rest))
+}
+
+/// The form of counting that a word names.
+fn counting_of(word: &[u8]) -> Option<Counting>
+    ensures { result ≡ counting_named word.now }
+{
+    if spells(word, b"all") {
+        Some(Counting::All)
+    } else if spells(word, b"others") {
+        Some(Counting::Others)
+    } else {
+        None
+    }
+}
+
+/// The words of `cancel`, and what follows them.
+fn cancel_words<'a>(
+    client: &'a [u8],
+    text: &'a [u8],
+) -> Result<(CommandWords<'a>, &'a [u8]), LineCause>
+    ensures { Gives (λ x. (seen x.0, words x.1.now)) result (cancel_phrase (client.now ∷ words text.now)) }
+{
+    let (token, rest) = next_word(text)?;
+    let (word, rest) = next_word(rest)?;
+    let counting = counting_of(word).ok_or(LineCause::Words)?;
+    let cancel = CancelWords {
+        client,
+        token,
+        counting,
+    };
+    Ok((CommandWords::Cancel(cancel), rest))
 }
 
 /// The words after the first word of a command, and what follows them. Each command has at least one.
@@ -180,6 +242,7 @@ fn words_behind(verb: Verb, text: &[u8]) -> Result<(CommandWords<'_>, &[u8]), Li
         Verb::Add => add_words(word, rest),
         Verb::Pull => Ok((CommandWords::Pull(word), rest)),
         Verb::Drop => Ok((CommandWords::Remove(word), rest)),
+        Verb::Cancel => cancel_words(word, rest),
         Verb::Clean => Ok((CommandWords::Clean(word), rest)),
     }
 }
@@ -236,23 +299,50 @@ fn read_info(words: InfoWords<'_>) -> Result<(ClientId, ClientInfo, Moment), Com
     Ok((client, info, at))
 }
 
+/// The cost of a word, not yet checked. It is 1 if it is absent.
+#[tactic(auto, unfolding(crate::specs::Commands::cost_word))]
+fn cost_word(word: Option<&[u8]>) -> Result<u32, CommandFault>
+    ensures { result ≡ cost_word (option_map (λ word. word.now) word.entry) }
+{
+    match word {
+        None => Ok(1),
+        Some(word) => small(word),
+    }
+}
+
 /// The request of words.
-#[tactic(auto, unfolding(crate::specs::Commands::moment, crate::specs::Commands::params))]
+#[tactic(auto, unfolding(crate::specs::Commands::moment, crate::specs::Commands::params, crate::specs::Commands::cost))]
 fn read_add(words: AddWords<'_>) -> Result<Command, CommandFault>
-    ensures { result ≡ with_params words.entry.client.now words.entry.token.now words.entry.delta.now words.entry.rho.now words.entry.at.now }
+    ensures { result ≡ with_params words.entry.client.now words.entry.token.now words.entry.delta.now words.entry.rho.now words.entry.at.now
+        (option_map (λ word. word.now) words.entry.cost) }
 {
     let client = ClientId(small(words.client)?);
     let token = Token(small(words.token)?);
     let delta = small(words.delta)?;
     let rho = small(words.rho)?;
     let ticks = long(words.at)?;
+    let units = cost_word(words.cost)?;
     let at = Moment::new(ticks)?;
     let params = ReqParams::new(delta, rho)?;
+    let cost = Cost::new(units)?;
     Ok(Command::Add {
         client,
         token,
-        params,
+        params: params.with_cost(cost),
         at,
+    })
+}
+
+/// The cancel of words.
+fn read_cancel(words: CancelWords<'_>) -> Result<Command, CommandFault>
+    ensures { result ≡ with_token words.entry.client.now words.entry.token.now words.entry.counting }
+{
+    let client = ClientId(small(words.client)?);
+    let token = Token(small(words.token)?);
+    Ok(Command::Cancel {
+        client,
+        token,
+        counting: words.counting,
     })
 }
 
@@ -285,6 +375,7 @@ pub fn read_command(words: CommandWords<'_>) -> Result<Command, CommandFault>
         CommandWords::Remove(word) => Ok(Command::Remove {
             client: ClientId(small(word)?),
         }),
+        CommandWords::Cancel(words) => read_cancel(words),
         CommandWords::Clean(word) => Ok(Command::Clean {
             at: read_moment(word)?,
         }),

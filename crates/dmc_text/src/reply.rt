@@ -1,16 +1,18 @@
 //! The texts of replies. All their words are checked before any is read as a number or a tag.
-ghost use Rattle.std.specs.Prelude.{◌≡◌, ◌∷◌, []};
+ghost use Rattle.std.specs.Prelude.{◌≡◌, ◌∷◌};
+ghost use Rattle.std.specs.Option.{option_map};
 ghost use Rattle.dmc_text.specs.Words.{words};
 ghost use Rattle.dmc_text.specs.Answers.{Gives};
-ghost use Rattle.dmc_text.specs.Replies.{name_of, no_more, one_more, two_more, three_more, tagged, granted, later, removed, cleaned, phase_of, grant_of, field_of, plain_refusal, refusal_of, saying_of, saying, count, instant, tag, optional_tag, reply_said, reply_of, seen_reply};
+ghost use Rattle.dmc_text.specs.Replies.{name_of, no_more, one_more, two_more, three_more, tagged, granted, later, removed, cleaned, beyond_behind, phase_of, grant_of, field_of, plain_refusal, refusal_of, saying_of, saying, count, cost_of, cost_said, instant, tag, optional_tag, reply_said, reply_of, seen_reply};
 
 use crate::cause::LineCause;
-use crate::command::next_word;
+use crate::command::{cost_behind, next_word};
 use crate::number::{read_u32, read_u128};
 use crate::tag::{TagText, read_tag};
 use crate::word::{first_word, spells};
 use dmc_tag::reply::{Reply, Tags};
 use dmc_types::config::PhaseType;
+use dmc_types::cost::Cost;
 use dmc_types::ids::{ClientId, Token};
 use dmc_types::refusal::{Field, Refusal};
 
@@ -47,6 +49,7 @@ pub enum ReplyWords<'a> {
         token: &'a [u8],
         phase: PhaseType,
         beyond: bool,
+        cost: Option<&'a [u8]>,
     },
     Later(&'a [u8]),
     Nothing,
@@ -130,36 +133,27 @@ fn cleaned(text: &[u8]) -> Result<ReplyWords<'_>, LineCause>
     ended(ReplyWords::Cleaned { idled, erased }, rest)
 }
 
-/// The phase of a grant, and whether it is beyond its limit.
-fn phase_of(text: &[u8]) -> Result<(PhaseType, bool), LineCause>
-    ensures { result ≡ phase_of (words text.now) }
+/// Whether `beyond` is the next word, and what follows.
+fn beyond_behind(text: &[u8]) -> (bool, &[u8])
+    ensures { (result.0, words result.1.now) ≡ beyond_behind (words text.now) }
+{
+    match first_word(text) {
+        Some((word, rest)) if spells(word, b"beyond") => (true, rest),
+        _ => (false, text),
+    }
+}
+
+/// The phase of a grant, whether it is beyond its limit, and what follows.
+fn phase_of(text: &[u8]) -> Result<(PhaseType, bool, &[u8]), LineCause>
+    ensures { Gives (λ x. (x.0, x.1, words x.2.now)) result (phase_of (words text.now)) }
 {
     let (phase, rest) = next_word(text)?;
-    match first_word(rest) {
-        None => phase_named(phase),
-        Some((beyond, rest)) => beyond_named(phase, beyond, rest),
+    if spells(phase, b"reservation") {
+        return Ok((PhaseType::Reservation, false, rest));
     }
-}
-
-/// What two words and the rest name.
-fn beyond_named(phase: &[u8], beyond: &[u8], text: &[u8]) -> Result<(PhaseType, bool), LineCause>
-    ensures { result ≡ phase_of (phase.now ∷ beyond.now ∷ words text.now) }
-{
-    if spells(phase, b"priority") && spells(beyond, b"beyond") && first_word(text).is_none() {
-        return Ok((PhaseType::Priority, true));
-    }
-    Err(LineCause::Words)
-}
-
-/// The phase that a last word names.
-fn phase_named(word: &[u8]) -> Result<(PhaseType, bool), LineCause>
-    ensures { result ≡ phase_of (word.now ∷ []) }
-{
-    if spells(word, b"reservation") {
-        return Ok((PhaseType::Reservation, false));
-    }
-    if spells(word, b"priority") {
-        return Ok((PhaseType::Priority, false));
+    if spells(phase, b"priority") {
+        let (beyond, rest) = beyond_behind(rest);
+        return Ok((PhaseType::Priority, beyond, rest));
     }
     Err(LineCause::Words)
 }
@@ -170,13 +164,16 @@ fn granted(text: &[u8]) -> Result<ReplyWords<'_>, LineCause>
 {
     let (client, rest) = next_word(text)?;
     let (token, rest) = next_word(rest)?;
-    let (phase, beyond) = phase_of(rest)?;
-    Ok(ReplyWords::Granted {
+    let (phase, beyond, rest) = phase_of(rest)?;
+    let (cost, rest) = cost_behind(rest)?;
+    let granted = ReplyWords::Granted {
         client,
         token,
         phase,
         beyond,
-    })
+        cost,
+    };
+    ended(granted, rest)
 }
 
 /// The rate that a word names.
@@ -278,6 +275,25 @@ fn count(word: &[u8]) -> Result<u32, LineCause>
     read_u32(word).ok_or(LineCause::Number)
 }
 
+/// A cost of this many units. It is not 0.
+#[tactic(auto, unfolding(crate::specs::Replies::cost_of))]
+fn cost_of(units: u32) -> Result<Cost, LineCause>
+    ensures { result ≡ cost_of units }
+{
+    Cost::new(units).map_err(|_| LineCause::Number)
+}
+
+/// The cost of a word, or 1 if it is absent.
+#[tactic(auto, unfolding(crate::specs::Replies::cost_said))]
+fn cost_said(word: Option<&[u8]>) -> Result<Cost, LineCause>
+    ensures { result ≡ cost_said (option_map (λ word. word.now) word.entry) }
+{
+    match word {
+        None => Ok(Cost::ONE),
+        Some(word) => cost_of(count(word)?),
+    }
+}
+
 /// A moment of 128 bits.
 #[tactic(auto, unfolding(crate::specs::Replies::instant))]
 fn instant(word: &[u8]) -> Result<u128, LineCause>
@@ -323,16 +339,19 @@ fn granted_said<T: TagText>(
     token: &[u8],
     phase: PhaseType,
     beyond: bool,
+    cost: Option<&[u8]>,
 ) -> Result<Reply<T>, LineCause>
-    ensures { result ≡ reply_said T.made (granted client.now token.now phase beyond) }
+    ensures { result ≡ reply_said T.made (granted client.now token.now phase beyond (option_map (λ word. word.now) cost.entry)) }
 {
     let client = ClientId(count(client)?);
     let token = Token(count(token)?);
+    let cost = cost_said(cost)?;
     Ok(Reply::Granted {
         client,
         token,
         phase,
         beyond,
+        cost,
     })
 }
 
@@ -360,7 +379,8 @@ pub fn reply_said<T: TagText>(words: ReplyWords<'_>) -> Result<Reply<T>, LineCau
             token,
             phase,
             beyond,
-        } => granted_said(client, token, phase, beyond),
+            cost,
+        } => granted_said(client, token, phase, beyond, cost),
         ReplyWords::Later(at) => Ok(Reply::Later(instant(at)?)),
         ReplyWords::Nothing => Ok(Reply::Nothing),
         ReplyWords::Removed(removed) => Ok(Reply::Removed(count(removed)?)),

@@ -46,6 +46,7 @@ fn value_text(fault: ValueFault) -> &'static [u8]
     match fault {
         ValueFault::Moment => b"refused moment",
         ValueFault::Params => b"refused params",
+        ValueFault::Cost => b"refused cost",
         ValueFault::Rate => b"refused rate",
         ValueFault::Config => b"refused config",
     }

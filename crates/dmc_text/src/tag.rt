@@ -1,5 +1,5 @@
 //! The texts of tags.
-ghost use Rattle.std.specs.Prelude.{◌≡◌, ◌<◌, ◌≤◌, ℕ, ℤ, ◌^◌, Option, Some, option_and_then};
+ghost use Rattle.std.specs.Prelude.{◌≡◌, ◌<◌, ◌≤◌, ℕ, ℤ, ◌^◌, Option, Some, option_and_then, unsigned_abs};
 ghost use Rattle.dmc_tag.specs.Tag.{IsSame};
 ghost use Rattle.dmc_text.specs.Tags.{below_zero, signed, over, fraction_of};
 ghost use Rattle.dmc_text.specs.Numbers.{number};
@@ -19,10 +19,11 @@ pub trait TagText: Tag {
     /// The tag whose text has this numerator and this denominator.
     ghost made: { ℤ → ℕ → Option Self };
 
-    /// The numerator and the denominator, at most 2^32, from which the tag can be made.
+    /// The numerator, of absolute value at most 2^90, and the denominator, at most 2^32, from which the tag can be made.
     fn parts(self) -> (i128, u64)
         ensures over { result.0 ≡ numerator self }
         ensures under { result.1 ≡ denominator self }
+        ensures size { unsigned_abs result.0 ≤ 2 ^ 90 }
         ensures some { 0 < result.1 }
         ensures limit { result.1 ≤ 2 ^ 32 }
         ensures value { IsSame (Self.fraction self) (record { numer = result.0; denom = result.1 }) }

@@ -1,8 +1,8 @@
 //! The texts of replies, written.
-ghost use Rattle.std.specs.Prelude.{◌≡◌, ◌∷◌, [], ◌<◌, ◌^◌, Some, OnOk, codes};
+ghost use Rattle.std.specs.Prelude.{◌≡◌, ◌∷◌, ◌++◌, [], ◌<◌, ◌^◌, Some, OnOk, codes};
 ghost use Rattle.std.specs.List.{join_with_byte};
 ghost use Rattle.std.specs.Io.KnownBytes.{Appends};
-ghost use Rattle.dmc_text.specs.Replies.{refusal_words, tag_text, reply_text, IsWritable, word_text, tag_word as word_of, grant_words};
+ghost use Rattle.dmc_text.specs.Replies.{refusal_words, tag_text, reply_text, IsWritable, word_text, tag_word as word_of, grant_words, cost_words};
 ghost use Rattle.dmc_text.specs.RoundTrip.{IsReadBack};
 ghost use Rattle.dmc_text.specs.internal.RoundTrip.{ReadsAgain, ReadsEach};
 ghost use Rattle.dmc_tag.specs.declared.reply.Reply.TheVariants.{Tagged};
@@ -11,6 +11,7 @@ ghost use Rattle.std.specs.Fmt.{decimal};
 use crate::tag::TagText;
 use dmc_tag::reply::{Reply, Tags};
 use dmc_types::config::PhaseType;
+use dmc_types::cost::Cost;
 use dmc_types::ids::{ClientId, Token};
 use dmc_types::refusal::{Field, Refusal};
 use std::{fmt, io};
@@ -81,7 +82,7 @@ fn write_tags<T: TagText, W: io::Write>(tags: Tags<T>, out: &mut W) -> io::Resul
     write!(out, "tags {r} {l} {p}")
 }
 
-/// The end of a grant's text.
+/// The phase of a grant's text.
 fn phase_text(phase: PhaseType, beyond: bool) -> &'static str
     ensures { result.now ≡ join_with_byte 32 (grant_words phase beyond) }
 {
@@ -103,14 +104,20 @@ fn write_grant<W: io::Write>(
     token: Token,
     phase: PhaseType,
     beyond: bool,
+    cost: Cost,
     out: &mut W,
 ) -> io::Result<()>
     ensures text { OnOk result (Appends (W.contents out.old) (W.contents out.new)
-        (join_with_byte 32 (codes "grant" ∷ decimal client.0 ∷ decimal token.0 ∷ grant_words phase beyond))) }
+        (join_with_byte 32 (codes "grant" ∷ decimal client.0 ∷ decimal token.0 ∷ grant_words phase beyond ++ cost_words cost))) }
     ensures ids { (client.0 < 2 ^ 32) × (token.0 < 2 ^ 32) }
+    ensures cost { (0 < cost) × (cost < 2 ^ 32) }
 {
-    let last = phase_text(phase, beyond);
-    write!(out, "grant {} {} {last}", client.0, token.0)
+    let phase = phase_text(phase, beyond);
+    let units = cost.units();
+    if units == 1 {
+        return write!(out, "grant {} {} {phase}", client.0, token.0);
+    }
+    write!(out, "grant {} {} {phase} cost {units}", client.0, token.0)
 }
 
 /// Writes the moment of a `future`.
@@ -154,7 +161,8 @@ pub fn write_reply<T: TagText, W: io::Write>(reply: &Reply<T>, out: &mut W) -> i
             token,
             phase,
             beyond,
-        } => write_grant(client, token, phase, beyond, out),
+            cost,
+        } => write_grant(client, token, phase, beyond, cost, out),
         Reply::Later(at) => write_later(at, out),
         Reply::Nothing => out.write_all(b"none"),
         Reply::Removed(removed) => write_removed(removed, out),

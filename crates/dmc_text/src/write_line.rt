@@ -6,7 +6,7 @@ ghost use Rattle.std.specs.Io.KnownBytes.{Appends};
 ghost use Rattle.dmc_text.specs.declared.event_line.EventLine.TheVariants as event_lines;
 ghost use Rattle.dmc_text.specs.declared.line.Line.TheVariants.{Ask};
 ghost use Rattle.dmc_text.specs.declared.line.LineKind.TheVariants as kinds;
-ghost use Rattle.dmc_types.specs.declared.command.Command.TheVariants.{Add, Pull, Remove, Clean};
+ghost use Rattle.dmc_types.specs.declared.command.Command.TheVariants.{Add, Pull, Remove, Cancel, Clean};
 ghost use Rattle.dmc_text.specs.EventLines.{event_of};
 ghost use Rattle.dmc_text.specs.Lines.{kind_of, line_of};
 ghost use Rattle.dmc_text.specs.Replies.{IsWritable, tag_text};
@@ -19,7 +19,7 @@ use crate::tag::TagText;
 use crate::write::write_reply;
 use dmc_tag::event::Event;
 use dmc_types::command::Command;
-use dmc_types::config::{AtLimit, QueueConfig, Shares};
+use dmc_types::config::{AtLimit, Counting, QueueConfig, Shares};
 use dmc_types::ids::{ClientId, ServerId, Token, WorkerId};
 use dmc_types::info::ClientInfo;
 use dmc_types::moment::Moment;
@@ -113,7 +113,15 @@ fn write_add<W: io::Write>(
     let delta = params.delta();
     let rho = params.rho();
     let ticks = at.ticks();
-    write!(out, "add {} {} {delta} {rho} {ticks}", client.0, token.0)
+    let units = params.cost().units();
+    if units == 1 {
+        return write!(out, "add {} {} {delta} {rho} {ticks}", client.0, token.0);
+    }
+    write!(
+        out,
+        "add {} {} {delta} {rho} {ticks} cost {units}",
+        client.0, token.0
+    )
 }
 
 /// Writes a pull.
@@ -131,6 +139,22 @@ fn write_drop<W: io::Write>(client: ClientId, out: &mut W) -> io::Result<()>
     ensures again { IsAskedAgain (Remove client) }
 {
     write!(out, "drop {}", client.0)
+}
+
+/// Writes a cancel.
+fn write_cancel<W: io::Write>(
+    client: ClientId,
+    token: Token,
+    counting: Counting,
+    out: &mut W,
+) -> io::Result<()>
+    ensures text { OnOk result (Appends (W.contents out.old) (W.contents out.new) (command_text (Cancel client token counting))) }
+    ensures again { IsAskedAgain (Cancel client token counting) }
+{
+    match counting {
+        Counting::All => write!(out, "cancel {} {} all", client.0, token.0),
+        Counting::Others => write!(out, "cancel {} {} others", client.0, token.0),
+    }
 }
 
 /// Writes a clean.
@@ -159,6 +183,11 @@ pub fn write_command<W: io::Write>(command: &Command, out: &mut W) -> io::Result
         } => write_add(client, token, params, at, out),
         Command::Pull { at } => write_pull(at, out),
         Command::Remove { client } => write_drop(client, out),
+        Command::Cancel {
+            client,
+            token,
+            counting,
+        } => write_cancel(client, token, counting, out),
         Command::Clean { at } => write_clean(at, out),
     }
 }

@@ -39,6 +39,7 @@ expected_of_key key.Weight = codes "dmclock: key weight: expected an integer fro
 expected_of_key key.Limit = codes "dmclock: key limit: expected an integer from 1 to 2^32-1, with ticks one that divides hz"
 expected_of_key key.Requests = codes "dmclock: key requests: expected an integer from 0 to 1000000"
 expected_of_key key.Window = codes "dmclock: key window: expected an integer from 1 to 1024"
+expected_of_key key.Costs = codes "dmclock: key costs: expected a list of 1 to 16 integers from 1 to 1024"
 
 -- The line that explains a fault, with its LF. A usage fault is explained by its words, and a failed allocation is not.
 abbrev pub explanation : Fault → List ℕ

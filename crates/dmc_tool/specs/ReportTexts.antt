@@ -1,19 +1,24 @@
 -- The text of a run's report.
-use Rattle.std.specs.Prelude.{ℕ, ◌+◌, List, [], ◌∷◌, ◌++◌, codes, flat_map, sum_by}
+use Rattle.std.specs.Prelude.{ℕ, ◌+◌, Bool, List, [], ◌∷◌, ◌++◌, codes, flat_map, sum_by}
 use Rattle.std.specs.Fmt.{decimal}
+use Rattle.dmc_sim.specs.Texts.{cost_words}
 use Rattle.dmc_check.specs.declared.check.Verdict.{Verdict}
 use Rattle.dmc_check.specs.declared.check.Verdict.TheVariants.{Replays, Differs}
 use Rattle.dmc_settle.specs.declared.report.ClientReport.{ClientReport}
 use Rattle.dmc_settle.specs.declared.report.ServerReport.{ServerReport}
 use Rattle.dmc_settle.specs.declared.report.ClusterReport.{ClusterReport}
 
-abbrev pub client_line : ClientReport → List ℕ
-client_line row =
+abbrev pub client_numbers : ClientReport → List ℕ
+client_numbers row =
     codes "client " ++ (decimal row.client.0
     ++ (codes " sent " ++ (decimal row.sent
     ++ (codes " completed " ++ (decimal row.completed
     ++ (codes " failed " ++ (decimal row.failed
-    ++ (codes " units " ++ (decimal row.held.stamps ++ 10 ∷ [])))))))))
+    ++ (codes " units " ++ decimal row.held.stamps))))))))
+
+-- the cost of its completed requests is at its end if a client of the scene has costs
+abbrev pub client_line : Bool → ClientReport → List ℕ
+client_line with_costs row = client_numbers row ++ (cost_words with_costs row.cost ++ 10 ∷ [])
 
 abbrev pub verdict_text : Verdict → List ℕ
 verdict_text Replays = codes "replays"
@@ -38,5 +43,6 @@ total_line rows =
     ++ (codes " completed " ++ (decimal (sum_by (λ r. r.completed) rows) ++ 10 ∷ [])))
 
 -- a line for each client, one for each server, and the totals
-abbrev pub report_text : {T : Type 0} → ClusterReport T → List Verdict → List ℕ
-report_text report verdicts = flat_map client_line report.clients.items ++ (server_lines report.servers.items verdicts ++ total_line report.clients.items)
+abbrev pub report_text : {T : Type 0} → Bool → ClusterReport T → List Verdict → List ℕ
+report_text with_costs report verdicts =
+    flat_map (client_line with_costs) report.clients.items ++ (server_lines report.servers.items verdicts ++ total_line report.clients.items)

@@ -207,5 +207,6 @@ fn expected_of_key(key: Key) -> &'static str
             "dmclock: key limit: expected an integer from 1 to 2^32-1, with ticks one that divides hz",
         Key::Requests => "dmclock: key requests: expected an integer from 0 to 1000000",
         Key::Window => "dmclock: key window: expected an integer from 1 to 1024",
+        Key::Costs => "dmclock: key costs: expected a list of 1 to 16 integers from 1 to 1024",
     }
 }

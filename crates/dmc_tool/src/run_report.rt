@@ -1,49 +1,60 @@
 //! The text of a run's report.
 ghost use Rattle.std.specs.Prelude.{◌≡◌, ◌+◌, ◌++◌, ◌<◌, IfOk, OnOk, flat_map, length, string_bytes, sum_by};
-ghost use Rattle.dmc_tool.specs.ReportTexts.{client_line, report_text, server_line, server_lines, total_line};
+ghost use Rattle.dmc_tool.specs.ReportTexts.{client_line, client_numbers, report_text, server_line, server_lines, total_line};
 
 use dmc_check::check::Verdict;
 use dmc_settle::report::{ClientReport, ClusterReport, ServerReport};
+use dmc_sim::report::put_cost;
 use dmc_tag::tag::Tag;
 use std::alloc::{AllocError, Global};
 
-/// The lines of a report: one for each client, one for each server with the verdict on its history, and
-/// `total sent N completed M`.
+/// The lines of a report: one for each client, with the cost of its completed requests if that is asked for, one for each server
+/// with the verdict on its history, and `total sent N completed M`.
 pub fn report_text<T: Tag>(
     alloc: Global,
+    with_costs: bool,
     report: &ClusterReport<T>,
     verdicts: &[Verdict],
 ) -> Result<String, AllocError>
     requires { length verdicts.now ≡ length report.now.servers.items }
-    ensures { IfOk result (λ text. string_bytes text ≡ report_text report.now verdicts.now) }
+    ensures { IfOk result (λ text. string_bytes text ≡ report_text with_costs report.now verdicts.now) }
 {
     let mut text = String::new(alloc);
-    put_clients(&report.clients, &mut text)?;
+    put_clients(&report.clients, with_costs, &mut text)?;
     put_servers(&report.servers, verdicts, &mut text)?;
     put_total(&report.clients, &mut text)?;
     Ok(text)
 }
 
 /// Adds the line of each client.
-fn put_clients(rows: &[ClientReport], text: &mut String) -> Result<(), AllocError>
-    ensures { OnOk result (string_bytes text.new ≡ string_bytes text.old ++ flat_map client_line rows.now) }
+fn put_clients(rows: &[ClientReport], with_costs: bool, text: &mut String) -> Result<(), AllocError>
+    ensures { OnOk result (string_bytes text.new ≡ string_bytes text.old ++ flat_map (client_line with_costs) rows.now) }
 {
     for row in rows {
-        put_client(row, text)?;
+        put_client(row, with_costs, text)?;
     }
     Ok(())
 }
 
 /// Adds the line of a client.
-fn put_client(row: &ClientReport, text: &mut String) -> Result<(), AllocError>
-    ensures { OnOk result (string_bytes text.new ≡ string_bytes text.old ++ client_line row.now) }
+fn put_client(row: &ClientReport, with_costs: bool, text: &mut String) -> Result<(), AllocError>
+    ensures { OnOk result (string_bytes text.new ≡ string_bytes text.old ++ client_line with_costs row.now) }
+{
+    put_numbers(row, text)?;
+    put_cost(with_costs, row.cost, text)?;
+    writeln!(text)
+}
+
+/// Adds a client's requests, in numbers.
+fn put_numbers(row: &ClientReport, text: &mut String) -> Result<(), AllocError>
+    ensures { OnOk result (string_bytes text.new ≡ string_bytes text.old ++ client_numbers row.now) }
 {
     let client = row.client.0;
     let sent = row.sent;
     let completed = row.completed;
     let failed = row.failed;
     let units = row.held.stamps;
-    writeln!(
+    write!(
         text,
         "client {client} sent {sent} completed {completed} failed {failed} units {units}"
     )

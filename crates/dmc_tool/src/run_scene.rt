@@ -18,7 +18,7 @@ use dmc_tag::tag::Tag;
 use dmc_text::send::send;
 use dmc_text::watched::Watched;
 use dmc_tick::tick::TickTag;
-use dmc_types::config::{QueueConfig, TagKind};
+use dmc_types::config::TagKind;
 use std::alloc::{AllocError, Global};
 use std::io::Write;
 use std::sync::Wait;
@@ -84,8 +84,8 @@ fn run_on<T: Tag + Send + Sync, R: Threads + Wait + Sync, W: Write>(
 {
     let clock = StepClock::new(scene.step());
     match run_cluster::<T, R, NoService, StepClock>(rt, alloc, scene, &NoService, &clock) {
-        Ok(report) => write_report(rt, alloc, scene.config(), &report, writer),
-        Err(fault) => write_fault_report(rt, alloc, scene.config(), fault, writer),
+        Ok(report) => write_report(rt, alloc, scene, &report, writer),
+        Err(fault) => write_fault_report(rt, alloc, scene, fault, writer),
     }
 }
 
@@ -93,22 +93,22 @@ fn run_on<T: Tag + Send + Sync, R: Threads + Wait + Sync, W: Write>(
 fn write_fault_report<T: Tag + Sync, R: Threads + Sync, W: Write>(
     rt: &R,
     alloc: Global,
-    config: QueueConfig,
+    scene: &Scene,
     fault: DriveFault<T>,
     writer: &mut Watched<W>,
 ) -> Result<(), RunSceneFault>
-    ensures bytes { WritesFaultReport T.ops config fault (W.contents (stream_of writer.old)) (W.contents (stream_of writer.new)) result }
+    ensures bytes { WritesFaultReport T.ops scene.now fault (W.contents (stream_of writer.old)) (W.contents (stream_of writer.new)) result }
     ensures note { ReportNoted writer.old writer.new result }
 {
     match fault {
         DriveFault::Memory => Err(RunSceneFault::Memory),
         DriveFault::Torn => Err(RunSceneFault::Torn),
         DriveFault::TurnsOut(report) => {
-            write_report(rt, alloc, config, &report, writer)?;
+            write_report(rt, alloc, scene, &report, writer)?;
             Err(RunSceneFault::TurnsOut)
         }
         DriveFault::Stopped(report) => {
-            write_report(rt, alloc, config, &report, writer)?;
+            write_report(rt, alloc, scene, &report, writer)?;
             Err(RunSceneFault::Stopped)
         }
     }
@@ -118,15 +118,15 @@ fn write_fault_report<T: Tag + Sync, R: Threads + Sync, W: Write>(
 fn write_report<T: Tag + Sync, R: Threads + Sync, W: Write>(
     rt: &R,
     alloc: Global,
-    config: QueueConfig,
+    scene: &Scene,
     report: &ClusterReport<T>,
     writer: &mut Watched<W>,
 ) -> Result<(), RunSceneFault>
-    ensures bytes { WritesReport T.ops config report.now (W.contents (stream_of writer.old)) (W.contents (stream_of writer.new)) result }
+    ensures bytes { WritesReport T.ops scene.now report.now (W.contents (stream_of writer.old)) (W.contents (stream_of writer.new)) result }
     ensures note { ReportNoted writer.old writer.new result }
 {
-    let verdicts = check_all(rt, alloc, config, &report.servers)?;
-    let text = report_text(alloc, report, &verdicts)?;
+    let verdicts = check_all(rt, alloc, scene.config(), &report.servers)?;
+    let text = report_text(alloc, scene.has_costs(), report, &verdicts)?;
     if !send(text.as_bytes(), writer) {
         return Err(RunSceneFault::Write);
     }

@@ -1,5 +1,5 @@
 -- Which fields of an event's line were read.
-use Rattle.dmc_text.specs.Commands.{command, seen}
+use Rattle.dmc_text.specs.Commands.{seen}
 use Rattle.dmc_text.specs.Replies.{seen_reply}
 use Rattle.dmc_text.specs.declared.event_line.EventWords.{EventWords}
 use Rattle.dmc_text.specs.EventLines.{Spoken}

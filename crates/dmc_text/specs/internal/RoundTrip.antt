@@ -14,7 +14,7 @@ use Rattle.dmc_text.specs.RoundTrip.{AreWords}
 
 -- a tag's text is one word, which is not `-` and is read as the tag
 pub record ReadsAgain {T : Type 0} (made : ℤ → ℕ → Option T) (text : T → List ℕ) (a : T) : Type 0 where
-  pub word : AreWords 51 (text a ∷ [])
+  pub word : AreWords 40 (text a ∷ [])
   pub some : bytes_eq (text a) (codes "-") ≡ false
   pub read : tag made (text a) ≡ Ok a
 

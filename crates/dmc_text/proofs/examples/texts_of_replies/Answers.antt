@@ -18,3 +18,7 @@ returns-clause-thirds c = refl
 pub returns-clause-grant : goal.returns-clause-grant
 unfolding digits
 returns-clause-grant c = refl
+
+pub returns-clause-costly : goal.returns-clause-costly
+unfolding digits
+returns-clause-costly c = refl

@@ -17,7 +17,7 @@ returns-in-Updated-clause-again g c = rw c.in-Updated.is (λ told. back_updated 
 
 pub returns-in-Granted-clause-again : goal.returns-in-Granted-clause-again
 returns-in-Granted-clause-again g c =
-    rw c.in-Granted.is (λ told. back_granted g.T.TagText.made (text g) c.in-Granted.client c.in-Granted.token c.in-Granted.phase c.in-Granted.beyond told c.write_grant.ensures.ids.0 c.write_grant.ensures.ids.1)
+    rw c.in-Granted.is (λ told. back_granted g.T.TagText.made (text g) c.in-Granted.client c.in-Granted.token c.in-Granted.phase c.in-Granted.beyond c.in-Granted.cost told c.write_grant.ensures.ids.0 c.write_grant.ensures.ids.1 c.write_grant.ensures.cost.0 c.write_grant.ensures.cost.1)
 
 pub returns-in-Later-clause-again : goal.returns-in-Later-clause-again
 returns-in-Later-clause-again g c = rw c.in-Later.is (λ told. back_later g.T.TagText.made (text g) c.in-Later.at (omega arith))

@@ -1,5 +1,5 @@
 -- Each command is read again from its words, and from its line.
-use Rattle.dmc_types.specs.declared.command.Command.TheVariants.{Register, Update, Add, Pull, Remove, Clean}
+use Rattle.dmc_types.specs.declared.command.Command.TheVariants.{Register, Update, Add, Pull, Remove, Cancel, Clean}
 use Rattle.dmc_text.proofs.WrittenLemmas.{asked_register, asked_update, line_again}
 use Rattle.dmc_text.proofs.write_line.write_command.Goals as goal
 
@@ -27,6 +27,9 @@ returns-in-Pull-clause-line g c = rw c.in-Pull.is (line_again (Pull c.in-Pull.at
 
 pub returns-in-Remove-clause-line : goal.returns-in-Remove-clause-line
 returns-in-Remove-clause-line g c = rw c.in-Remove.is (line_again (Remove c.in-Remove.client) c.write_drop.ensures.again)
+
+pub returns-in-Cancel-clause-line : goal.returns-in-Cancel-clause-line
+returns-in-Cancel-clause-line g c = let x = c.in-Cancel in rw x.is (line_again (Cancel x.client x.token x.counting) c.write_cancel.ensures.again)
 
 pub returns-in-Clean-clause-line : goal.returns-in-Clean-clause-line
 returns-in-Clean-clause-line g c = rw c.in-Clean.is (line_again (Clean c.in-Clean.at) c.write_clean.ensures.again)

@@ -5,4 +5,4 @@ use Rattle.dmc_tool.specs.ReportTexts.{client_line}
 use Rattle.dmc_tool.proofs.run_report.put_clients.Given as goal
 
 abbrev pub invariant-loop-row : goal.invariant-loop-row
-invariant-loop-row l = string_bytes l.text ≡ string_bytes l.fn.text ++ flat_map client_line (take l.row-index l.rows)
+invariant-loop-row l = string_bytes l.text ≡ string_bytes l.fn.text ++ flat_map (client_line l.with_costs) (take l.row-index l.rows)

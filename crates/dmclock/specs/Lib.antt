@@ -15,6 +15,9 @@ pub use Rattle.dmc_pull.specs.Queue
 pub use Rattle.dmc_queue_history.specs.Segmented
 pub use Rattle.dmc_check.specs.Replaying
 pub use Rattle.dmc_check.specs.SegmentTexts
+pub use Rattle.dmc_shards.specs.CallList
+pub use Rattle.dmc_shards.specs.ShardBounds
+pub use Rattle.dmc_shards.specs.ShardNumbers
 pub use Rattle.dmc_tag.specs.Answers
 pub use Rattle.dmc_tag.specs.Laws
 pub use Rattle.dmc_tag.specs.Replay
@@ -30,6 +33,7 @@ pub use Rattle.dmc_text.specs.Texts
 pub use Rattle.dmc_text.specs.Written
 pub use Rattle.dmc_tlock.specs.Segments
 pub use Rattle.dmc_tracker.specs.Numbers
+pub use Rattle.dmc_tracker.specs.Parts
 pub use Rattle.dmc_tracker.specs.TrackerList
 pub use Rattle.dmc_types.specs.Clock
 pub use Rattle.dmc_types.specs.Rates

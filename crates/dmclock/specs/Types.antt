@@ -11,3 +11,5 @@ pub use Rattle.dmc_tag.specs.declared.rank.TagRank.{TagRank}
 pub use Rattle.dmc_tag.specs.declared.rank.LimitRank.{LimitRank}
 pub use Rattle.dmc_tag.specs.declared.rank.ReadyRank.{ReadyRank}
 pub use Rattle.dmc_tag.specs.declared.reply.Reply.{Reply}
+pub use Rattle.dmc_shards.specs.declared.call.ShardCall.{ShardCall}
+pub use Rattle.dmc_shards.specs.declared.status.ShardStatus.{ShardStatus}

@@ -3,6 +3,7 @@
 
 pub mod laws;
 pub mod locks;
+pub mod shards;
 
 pub use dmc_check::check::{Verdict, check};
 pub use dmc_check::replayer::{ReplayFault, Replayer};
@@ -26,6 +27,7 @@ pub use dmc_tracker::tracker::{MakeFault, ServiceTracker, TrackFault};
 pub use dmc_types::clock::nanos_until;
 pub use dmc_types::command::Command;
 pub use dmc_types::config::{AtLimit, Counting, PhaseType, QueueConfig, Shares};
+pub use dmc_types::cost::Cost;
 pub use dmc_types::ids::{ClientId, ServerId, Token, WorkerId};
 pub use dmc_types::info::ClientInfo;
 pub use dmc_types::limits;

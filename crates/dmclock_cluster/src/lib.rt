@@ -15,15 +15,19 @@ pub use dmc_driver::service::{Job, ServeFault, Service};
 pub use dmc_driver_threads::remains::Remains;
 pub use dmc_ratio::ratio::RatioTag;
 pub use dmc_scene::client::SceneClient;
+pub use dmc_scene::costs::CostList;
 pub use dmc_scene::fault::SceneFault;
 pub use dmc_scene::key::Key;
 pub use dmc_scene::scene::{Scene, read_scene};
-pub use dmc_settle::report::{ClientReport, ClusterReport, ServerReport, StopCause};
+pub use dmc_settle::report::{
+    ClientReport, ClusterReport, ServerReport, StampsLeft, StopCause, UnitsHeld,
+};
 pub use dmc_settle::room::SettleRoom;
 pub use dmc_settle::settle::{Passes, Torn, settle_cluster};
 pub use dmc_tag::reply::Reply;
 pub use dmc_tag::tag::Tag;
 pub use dmc_tick::tick::TickTag;
 pub use dmc_types::config::TagKind;
+pub use dmc_types::cost::Cost;
 pub use dmc_types::ids::{ClientId, ServerId, Token};
 pub use dmc_types::moment::Moment;

@@ -1,9 +1,9 @@
 //! A first request. README.md shows these functions.
-ghost use Rattle.std.specs.Prelude.{◌≡◌, ◌+◌, OnOk};
+ghost use Rattle.std.specs.Prelude.{◌<◌, OnOk};
 
 use anyhow::{Result, bail};
 use dmclock::{
-    AtLimit, ClientId, ClientInfo, Counting, FINE_HZ, Moment, Pulled, QueueConfig, Scheduler,
+    AtLimit, ClientId, ClientInfo, Cost, Counting, FINE_HZ, Moment, Pulled, QueueConfig, Scheduler,
     ServerId, ServiceTracker, Shares, TickQueue, TickTag, Token, rate_at_least, rate_at_most,
 };
 use std::alloc::Global;
@@ -19,19 +19,19 @@ pub fn serve_first(alloc: Global) -> Result<()> {
 
 /// Registers a client, and queues and serves a request of it. It is an error if the queue does not grant it.
 fn serve_one<Q: Scheduler<TickTag>>(queue: &mut Q, tracker: &mut ServiceTracker) -> Result<()>
-    ensures { OnOk result (tracker.new.completions.delta ≡ tracker.old.completions.delta + 1) }
+    ensures { OnOk result (tracker.old.completions.delta < tracker.new.completions.delta) }
 {
     let reserved = rate_at_least(FINE_HZ, 1_234); // at least 1,234 requests a second
     let limit = rate_at_most(FINE_HZ, 5_000); // at most 5,000
     let info = ClientInfo::new(reserved, 2, limit)?; // and a weight of 2
     let now = Moment::zero(); // or Moment::from_nanos, of a monotonic clock
     queue.register(ClientId(7), info, now)?;
-    let stamp = tracker.get_req_params(ServerId(0))?;
+    let stamp = tracker.get_req_params(ServerId(0), Cost::ONE)?; // each request counts as one
     queue.add_request(ClientId(7), Token(1), stamp, now)?;
-    let Pulled::Returning { phase, .. } = queue.pull_request(now)? else {
+    let Pulled::Returning { phase, cost, .. } = queue.pull_request(now)? else {
         bail!("nothing may be granted yet");
     };
-    // here a device serves the request; its response returns the phase to the client
-    tracker.track_resp(ServerId(0), phase)?;
+    // here a device serves the request; its response returns phase and cost to the client
+    tracker.track_resp(ServerId(0), phase, cost)?;
     Ok(())
 }

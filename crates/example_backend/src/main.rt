@@ -8,7 +8,7 @@ ghost use Rattle.std.specs.Prelude.{◌≡◌, ◌+◌, OnOk};
 
 use anyhow::{Result, bail};
 use dmclock::{
-    AtLimit, ClientId, ClientInfo, Counting, FINE_HZ, Moment, PhaseType, Pulled, QueueConfig,
+    AtLimit, ClientId, ClientInfo, Cost, Counting, FINE_HZ, Moment, PhaseType, Pulled, QueueConfig,
     Scheduler, ServerId, ServiceTracker, Shares, TickQueue, TickTag, Token, nanos_until,
 };
 use std::alloc::Global;
@@ -33,7 +33,7 @@ impl Client {
     fn submit<Q: Scheduler<TickTag>>(&mut self, queue: &mut Q, at: Moment) -> Result<()>
         ensures { self.new.tracker.completions ≡ self.old.tracker.completions }
     {
-        let params = self.tracker.get_req_params(ServerId(0))?;
+        let params = self.tracker.get_req_params(ServerId(0), Cost::ONE)?;
         if let Err(fault) = queue.add_request(self.id, Token(self.sent), params, at) {
             return Err(fault.into());
         }
@@ -41,11 +41,11 @@ impl Client {
         Ok(())
     }
 
-    /// A response is one completion more.
-    fn respond(&mut self, phase: PhaseType) -> Result<()>
-        ensures { OnOk result (self.new.tracker.completions.delta ≡ self.old.tracker.completions.delta + 1) }
+    /// A response is a completion of this cost.
+    fn respond(&mut self, phase: PhaseType, cost: Cost) -> Result<()>
+        ensures { OnOk result (self.new.tracker.completions.delta ≡ self.old.tracker.completions.delta + cost) }
     {
-        self.tracker.track_resp(ServerId(0), phase)?;
+        self.tracker.track_resp(ServerId(0), phase, cost)?;
         self.served = self.served.saturating_add(1);
         Ok(())
     }
@@ -80,7 +80,15 @@ fn serve_all<Q: Scheduler<TickTag>>(
     for _ in 0..10_000 {
         let at = now(rt, start)?;
         match queue.pull_request(at)? {
-            Pulled::Returning { client, phase, .. } => serve(queue, all, client, phase, at)?,
+            Pulled::Returning {
+                client,
+                phase,
+                cost,
+                ..
+            } => {
+                complete(all, client, phase, cost)?;
+                request_next(queue, all, client, at)?;
+            }
             Pulled::Future(due) => sleep_until(rt, start, due)?,
             Pulled::Nothing => return Ok(()),
         }
@@ -88,18 +96,27 @@ fn serve_all<Q: Scheduler<TickTag>>(
     bail!("requests are left after 10,000 pulls")
 }
 
-/// Here a device would do the work. The client gets its response, and makes its next request.
-fn serve<Q: Scheduler<TickTag>>(
-    queue: &mut Q,
-    all: &mut Vec<Client>,
-    granted: ClientId,
-    phase: PhaseType,
-    at: Moment,
-) -> Result<()> {
-    let Some(client) = all.get_mut(granted.0 as usize) else {
+/// The client that was granted a request.
+fn granted(all: &mut [Client], client: ClientId) -> Result<&mut Client> {
+    let Some(client) = all.get_mut(client.0 as usize) else {
         bail!("a grant to an unknown client");
     };
-    client.respond(phase)?;
+    Ok(client)
+}
+
+/// Here a device would do the work. The client gets its response.
+fn complete(all: &mut [Client], client: ClientId, phase: PhaseType, cost: Cost) -> Result<()> {
+    granted(all, client)?.respond(phase, cost)
+}
+
+/// The client makes its next request, if there is one.
+fn request_next<Q: Scheduler<TickTag>>(
+    queue: &mut Q,
+    all: &mut [Client],
+    client: ClientId,
+    at: Moment,
+) -> Result<()> {
+    let client = granted(all, client)?;
     if client.sent < REQUESTS {
         client.submit(queue, at)?;
     }

@@ -7,7 +7,7 @@ ghost use Rattle.example_cluster.specs.Limits.{KeepsToLimits, steps_of};
 use anyhow::bail;
 use dmclock_cluster::laws::{cores_keep_to_limits, scenes_have_spacings};
 use dmclock_cluster::{
-    ClientId, ClusterCore, CoreEvent, CoreFault, CoreReply, Moment, Scene, ServerId, TagKind,
+    ClientId, ClusterCore, CoreEvent, CoreFault, CoreReply, Cost, Moment, Scene, ServerId, TagKind,
     TickTag, Token,
 };
 use std::alloc::Global;
@@ -54,6 +54,7 @@ fn follow(
         client,
         server,
         token,
+        cost: Cost::ONE,
     });
     let arrived = core.step(CoreEvent::Arrive { client, server, at });
     let pulled = core.step(CoreEvent::Pull { server, at });

@@ -23,7 +23,7 @@ use crate::serving::Worker;
 use crate::settling::settle;
 use crate::shared::Shared;
 use anyhow::{Result, bail};
-use dmclock::locks::{Blank, Setup};
+use dmclock::locks::{BOOKS_PER_PAIR, BOOKS_PER_WORKER, Blank, Setup};
 use std::alloc::Global;
 use std::io::Eprint;
 use std::marker::Brand;
@@ -33,8 +33,8 @@ use std::thread::Threads;
 use std::time::Instant;
 use std::{env, thread};
 
-/// The books that the mint opens: five for each client and for each pass, and the list of the queue's segments.
-const BOOKS: u64 = 5 * (CLIENTS + PASSES) as u64 + 1;
+/// The books that the mint opens: those of each client, those of each pass, and the list of the queue's segments.
+const BOOKS: u64 = BOOKS_PER_PAIR * CLIENTS as u64 + BOOKS_PER_WORKER * PASSES as u64 + 1;
 
 /// How many requests each client makes if no word says it.
 const REQUESTS: u32 = 5_000;

@@ -9,7 +9,7 @@ use anyhow::{Error, Result, bail};
 use dmclock::locks::{
     ClientDesk, ClientPass, Setup, Stamp, StampTills, TickLock, TrackerLock, WorkerPass,
 };
-use dmclock::{ClientId, ClientInfo, Command, Moment, Token};
+use dmclock::{ClientId, ClientInfo, Command, Cost, Moment, Token};
 use std::rt::Clock;
 use std::sync::Wait;
 
@@ -107,7 +107,7 @@ fn stamp<S: Setup, R: Wait>(
     ensures stamped { IfOk result (λ stamp. stamp_holdings tills.new ≡ tills_after_stamp stamp.params (stamp_holdings tills.old)) }
     ensures kept { OnErr result (tills.new ≡ tills.old) }
 {
-    match tracker.stamp(rt, SERVER, tills) {
+    match tracker.stamp(rt, SERVER, Cost::ONE, tills) {
         Ok(stamp) => Ok(stamp),
         Err(fault) => Err(fault.into()),
     }

@@ -1,11 +1,12 @@
 //! A worker's thread: it serves what the queue grants.
 ghost use Rattle.std.specs.Prelude.{◌≡◌, OnErr, OnOk};
-ghost use Rattle.dmclock.specs.Moves.{with_less};
+ghost use Rattle.dmclock.specs.Bundles.{phase_holdings};
+ghost use Rattle.dmclock.specs.Moves.{without_grant};
 
-use crate::shared::{SERVER, Shared};
+use crate::shared::Shared;
 use anyhow::{Error, Result, bail};
-use dmclock::locks::{RunFault, RunOrRange, Setup, Till, TrackerLock, WorkerPass};
-use dmclock::{ClientId, PhaseType, Pulled};
+use dmclock::Pulled;
+use dmclock::locks::{PhaseTills, RunFault, RunOrRange, Setup, TrackerLock, Unit, WorkerPass};
 use std::rt::Clock;
 use std::sync::Wait;
 
@@ -39,7 +40,7 @@ impl<S: Setup> Worker<S> {
     fn serve_next<R: Wait + Clock>(&mut self, rt: &R, shared: &Shared<S>) -> Result<bool> {
         let at = shared.now(rt)?;
         match shared.queue.pull_or_wait(rt, &mut self.pass, at) {
-            Ok(Pulled::Returning { client, phase, .. }) => self.serve(rt, shared, client, phase)?,
+            Ok(Pulled::Returning { .. }) => self.serve(rt, shared)?,
             Ok(Pulled::Nothing) => return Ok(false),
             Ok(Pulled::Future(_)) => bail!("a request without a limit is due later"),
             Err(RunOrRange::Run(RunFault::Behind)) => {
@@ -51,39 +52,36 @@ impl<S: Setup> Worker<S> {
         Ok(true)
     }
 
-    /// Here a device would do the work. Then the client has its response.
-    fn serve<R: Wait>(
-        &mut self,
-        rt: &R,
-        shared: &Shared<S>,
-        client: ClientId,
-        phase: PhaseType,
-    ) -> Result<()> {
-        let Some(till) = self.pass.grant_till(client, phase) else {
-            bail!("the pass has no till of the client");
+    /// Here a device would do the work. Then the client has its response, which takes the unit of the grant.
+    fn serve<R: Wait>(&mut self, rt: &R, shared: &Shared<S>) -> Result<()> {
+        let Some(unit) = self.pass.take_unit() else {
+            bail!("the pass has no unit of the grant");
         };
-        let client = shared.client(client)?;
-        respond(rt, &client.tracker, phase, till)?;
+        let client = shared.client(unit.client())?;
+        let Some(tills) = self.pass.grant_tills(unit.client(), unit.phase()) else {
+            bail!("the pass has no tills of the client");
+        };
+        respond(rt, &client.tracker, unit, tills)?;
         client.served.note(rt);
         Ok(())
     }
 }
 
-/// Counts a completion at the client's tracker. It takes the unit of its grant from the pass, so that none is counted twice.
+/// Counts a completion at the client's tracker. It takes the grant and its cost from the pass, so that none is counted twice.
 fn respond<S: Setup, R: Wait>(
     rt: &R,
     tracker: &TrackerLock<S>,
-    phase: PhaseType,
-    till: &mut Till<S>,
+    unit: Unit,
+    tills: &mut PhaseTills<S>,
 ) -> Result<()>
-    ensures unit { OnOk result (till.new ≡ with_less 1 till.old) }
-    ensures kept { OnErr result (till.new ≡ till.old) }
+    ensures grant { OnOk result (phase_holdings tills.new ≡ without_grant unit.cost (phase_holdings tills.old)) }
+    ensures kept { OnErr result (phase_holdings tills.new ≡ phase_holdings tills.old) }
 {
-    if till.amount() == 0 {
-        bail!("the pass has no unit of the grant");
+    if !tills.holds(unit.cost()) {
+        bail!("the pass does not hold the grant");
     }
-    match tracker.respond(rt, SERVER, phase, till) {
+    match tracker.respond(rt, unit, tills) {
         Ok(()) => Ok(()),
-        Err(fault) => Err(fault.into()),
+        Err(fault) => Err(fault.cause.into()),
     }
 }

@@ -30,7 +30,7 @@ def c_type(rust, handle):
 
 
 def structs():
-    """The fields of each struct that C writes or reads, and of the two that it holds."""
+    """The fields of each struct that C writes or reads, and of the three that it holds."""
     sources = read("reading.rt") + read("outputs.rt")
     for name, body in re.findall(r"#\[repr\(C\)\]\s*(?:#\[.*\]\s*)?pub struct (\w+) \{\n(.*?)\n\}", sources, re.S):
         yield snake(name), re.findall(r"pub (\w+): ([^,]+),", body)
@@ -38,11 +38,12 @@ def structs():
     fields = re.findall(r"^    (\w+): ([^,]+),", body, re.M)
     yield "dmc_queue", fields
     yield "dmc_tracker", fields
+    yield "dmc_shards", fields
 
 
 def exports():
     """Each export's name, types and whether it returns a code."""
-    for file, handle in (("queue.rt", "dmc_queue"), ("tracker.rt", "dmc_tracker"), ("rates.rt", None)):
+    for file, handle in (("queue.rt", "dmc_queue"), ("tracker.rt", "dmc_tracker"), ("shards.rt", "dmc_shards"), ("rates.rt", None)):
         for name, params, code in re.findall(r'pub extern "C" fn (\w+)\((.*?)\)( -> u32)?\s*\n\s*ensures', read(file), re.S):
             types = [p.split(":")[1].strip() for p in params.split(",") if ":" in p]
             yield name, [c_type(t, handle) for t in types if t != "Global"], bool(code)

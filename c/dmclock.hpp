@@ -1,5 +1,5 @@
 /// \file dmclock.hpp
-/// The proved dmClock queue and service tracker for back ends in C++17: a header over dmclock.h, to link with libdmclock.
+/// The proved dmClock queue, service tracker and shard tracker for back ends in C++17: a header over dmclock.h, to link with libdmclock.
 ///
 /// A server has a Queue, a client a Tracker. No call throws: a call that is refused has changed nothing and says why by its
 /// Code. The one that throws is Result::value(), for callers who like exceptions.
@@ -8,11 +8,11 @@
 ///     config.shares = dmclock::Shares::Virtual;
 ///     auto queue = dmclock::Queue::make(config).value();
 ///     auto code = queue.register_client(client, {10, 1, std::nullopt}, now);
-///     auto tags = queue.add_request(client, token, params, now);
+///     auto tags = queue.add_request(client, token, params, now);  // params of the client's tracker, or {delta, rho, cost}
 ///     auto pulled = queue.pull_request(now);
 ///     if (pulled && pulled->is_granted()) serve(pulled->client(), pulled->token());
 ///
-/// One call at a time on one Queue or Tracker. Each may move to another thread.
+/// One call at a time on one Queue, Tracker or ShardTracker. Each may move to another thread.
 #ifndef DMCLOCK_HPP
 #define DMCLOCK_HPP
 
@@ -34,14 +34,15 @@ namespace dmclock {
 enum class Code : std::uint32_t {
   Ok = DMC_OK,                                  ///< done
   Memory = DMC_MEMORY,                          ///< an allocation failed
-  NoneHeld = DMC_NONE_HELD,                     ///< the Queue or Tracker is empty: it was moved from, or made by `{}`
+  NoneHeld = DMC_NONE_HELD,                     ///< the Queue, Tracker or ShardTracker is empty: it was moved from, or made by `{}`
   Held = DMC_HELD,                              ///< no call of this header reports it
   BadMoment = DMC_BAD_MOMENT,                   ///< a moment past 2^62
   BadParams = DMC_BAD_PARAMS,                   ///< a rho past its delta
   BadRate = DMC_BAD_RATE,                       ///< a rate of 0, or no such rate
   BadConfig = DMC_BAD_CONFIG,                   ///< a setting out of its limits
   BadPhase = DMC_BAD_PHASE,                     ///< a number that is no PhaseType
-  Limit = DMC_LIMIT,                            ///< a tracker's servers or its `most` out of their limits
+  Limit = DMC_LIMIT,                            ///< a tracker's servers, its shards or its `most` out of their limits
+  BadCost = DMC_BAD_COST,                       ///< a cost of 0
   Known = DMC_KNOWN,                            ///< the client is registered already
   Unknown = DMC_UNKNOWN,                        ///< the client is not registered
   InexactReservation = DMC_INEXACT_RESERVATION, ///< the spacing hz/reservation is no value of the tags
@@ -52,8 +53,9 @@ enum class Code : std::uint32_t {
   Range = DMC_RANGE,                            ///< a sum that the call needs is no value of the tags
   Busy = DMC_BUSY,            ///< an update gives or takes a reservation while the client has a queued request
   OverLimit = DMC_OVER_LIMIT, ///< with AtLimit::Reject: the request would wait for its client's limit longer than the threshold
-  NoServer = DMC_NO_SERVER, ///< the tracker has no such server
-  TrackFull = DMC_TRACK_FULL ///< a count of the tracker would pass its `most`, or a stamp's delta 2^32-1
+  NoServer = DMC_NO_SERVER,   ///< the tracker has no such server, or no such shard
+  TrackFull = DMC_TRACK_FULL, ///< a count of the tracker would pass its `most`, or a stamp's delta 2^32-1
+  NotSent = DMC_NOT_SENT      ///< more is given back than was sent to the shard
 };
 
 /// A text for a code, such as "queue full".
@@ -178,7 +180,7 @@ struct ClientId : Strong<ClientId, std::uint32_t> {
   using Strong::Strong;
 };
 
-/// A server of a tracker: 0, 1, ..
+/// A server of a tracker, or a shard of a server, which to the rules is a server: 0, 1, ..
 struct ServerId : Strong<ServerId, std::uint32_t> {
   using Strong::Strong;
 };
@@ -274,7 +276,7 @@ class Pulled {
  public:
   /// What it is.
   enum class Kind : std::uint32_t {
-    Returning = DMC_GRANTED, ///< a request is granted: client(), token(), phase(), beyond()
+    Returning = DMC_GRANTED, ///< a request is granted: client(), token(), phase(), cost(), beyond()
     Future = DMC_FUTURE,     ///< one is due() later, and none before
     Nothing = DMC_NOTHING    ///< nothing is queued
   };
@@ -288,6 +290,8 @@ class Pulled {
   Token token() const noexcept { return Token(pulled_.token); }
   /// Of a grant: by reservation or by weight, which the client's tracker is to count.
   PhaseType phase() const noexcept { return static_cast<PhaseType>(pulled_.phase); }
+  /// Of a grant: the cost of the request, which the client's tracker is to count.
+  std::uint32_t cost() const noexcept { return pulled_.cost; }
   /// Of a grant: whether it is past its limit (AtLimit::Allow).
   bool beyond() const noexcept { return pulled_.beyond; }
   /// Of Kind::Future: when the next request is due.
@@ -304,17 +308,26 @@ struct Cleaned {
   std::uint32_t erased; ///< how many clients were erased
 };
 
-/// A client's rates, in requests a second.
+/// A client's rates, in units of cost a second: in requests a second if each request costs 1.
 struct ClientInfo {
   std::optional<std::uint32_t> reservation; ///< at least this many, where there is one
   std::uint32_t weight;                     ///< its share of the rest
   std::optional<std::uint32_t> limit;       ///< at most this many, where there is one
 };
 
-/// The two counts of a stamp, which go with a request to a server.
+/// What goes with a request to a server: the two counts of its stamp, and its cost. `{delta, rho}` is of a request of cost 1.
+///
+/// The cost is how much of its client's rates a request takes, 1 to 2^32-1 in units of the caller's choice: 1 if only requests
+/// are counted, else blocks of 4 KiB, say. Counts are in these units, and rates and weights in these units a second.
 struct ReqParams {
-  std::uint32_t delta; ///< completions since the last stamp to the same server
-  std::uint32_t rho;   ///< those of them by reservation, at most delta
+  std::uint32_t delta;    ///< completions since the last stamp to the same server
+  std::uint32_t rho;      ///< those of them by reservation, at most delta
+  std::uint32_t cost = 1; ///< of the request itself
+
+  /// The same with the counts of another stamp to the same server besides, which no server took, since its request was refused or
+  /// lost and is given up: the client's completions stay counted, and that request costs it nothing. BadConfig (a counting that
+  /// is none), BadParams, BadCost, TrackFull.
+  Result<ReqParams> with_returned(ReqParams returned, Counting counting) const noexcept;
 };
 
 /// How a queue is set up.
@@ -328,7 +341,7 @@ struct QueueConfig {
   std::uint64_t threshold = 0;           ///< with AtLimit::Reject how many ticks a request may wait for its limit, 0 to 2^62
 };
 
-/// What a tracker knows of a server, and its completions at all servers.
+/// What a tracker knows of a server, and its completions at all servers, all in units of cost.
 class TrackStatus {
  public:
   /// The delta that the next stamp to this server would carry; without the request itself in Counting::Others.
@@ -364,6 +377,15 @@ struct Calls {
   template <class T>
   static T *inside(T &value) noexcept {
     return &value;
+  }
+  // What a call makes of a stamp.
+  template <class Call>
+  static Result<ReqParams> of_stamp(Call call, dmc_stamp stamp = {}) noexcept {
+    return of<ReqParams>([&](ReqParams *params) {
+      const std::uint32_t code = call(&stamp);
+      *params = {stamp.delta, stamp.rho, stamp.cost};
+      return code;
+    });
   }
 };
 /// \endcond
@@ -410,12 +432,18 @@ class Queue {
         dmc_queue_update(&queue_, client.value(), rate(info.reservation), weight(info), rate(info.limit), at.value()));
   }
 
-  /// Queues a request with the counts of its stamp, and returns its tags. NoneHeld, BadMoment, BadParams, Unknown, QueueFull,
-  /// Range, Memory.
+  /// Queues a request with the counts of its stamp and its cost, and returns its tags. NoneHeld, BadMoment, BadParams, BadCost,
+  /// Unknown, QueueFull, Range, OverLimit, Memory.
   Result<Tags> add_request(ClientId client, Token token, ReqParams params, Moment at) noexcept {
     return Calls::of<Tags>([&](dmc_tags *tags) {
-      return dmc_queue_add(&queue_, client.value(), token.value(), params.delta, params.rho, at.value(), tags);
+      return dmc_queue_add(&queue_, client.value(), token.value(), params.delta, params.rho, params.cost, at.value(), tags);
     });
+  }
+
+  /// Queues a request at a server that is its clients' only one: each request counts its own cost, and no tracker is needed. The
+  /// same refusals.
+  Result<Tags> add_request_single(ClientId client, Token token, Moment at, std::uint32_t cost = 1) noexcept {
+    return add_request(client, token, {cost, cost, cost}, at);
   }
 
   /// Grants the next request, or says when one is due. NoneHeld, BadMoment, Range.
@@ -426,6 +454,17 @@ class Queue {
   /// Takes out a client's queued requests, and returns how many. NoneHeld, Unknown.
   Result<std::uint32_t> remove_by_client(ClientId client) noexcept {
     return Calls::of<std::uint32_t>([&](std::uint32_t *removed) { return dmc_queue_remove(&queue_, client.value(), removed); });
+  }
+
+  /// Takes back a client's queued requests with a token, wherever they are in the queue, when they are given up, and returns how
+  /// many: none if they were granted before. `counting` is that of the tracker that stamped them, and Counting::Others
+  /// after add_request_single. With Counting::Others a stamp counts its own request, so what they were charged is given back to the
+  /// client's later requests: after it pull again, since one may be due earlier. With Counting::All they were not charged yet.
+  /// NoneHeld, BadConfig (a counting that is none), Unknown.
+  Result<std::uint32_t> cancel(ClientId client, Token token, Counting counting) noexcept {
+    return Calls::of<std::uint32_t>([&](std::uint32_t *removed) {
+      return dmc_queue_cancel(&queue_, client.value(), token.value(), static_cast<std::uint32_t>(counting), removed);
+    });
   }
 
   /// Marks clients idle and erases old ones. NoneHeld, BadMoment.
@@ -459,7 +498,8 @@ class Queue {
 /// The service tracker of a client.
 class Tracker {
  public:
-  /// A tracker of servers 0, 1, .. (1 to 64 of them), which counts at most `most` completions (1 to 2^62). Limit, Memory.
+  /// A tracker of servers 0, 1, .. (1 to 64 of them), which counts completions of at most `most` units of cost (1 to 2^62).
+  /// BadConfig, Limit, Memory.
   static Result<Tracker> make(std::uint32_t servers, std::uint64_t most, Counting counting) noexcept {
     return Calls::of<Tracker>([&](Tracker *tracker) {
       return dmc_tracker_new(&tracker->tracker_, servers, most, static_cast<std::uint32_t>(counting));
@@ -481,14 +521,9 @@ class Tracker {
   /// Ends the tracker.
   ~Tracker() { dmc_tracker_free(&tracker_); }
 
-  /// Stamps a request to a server. NoneHeld, NoServer, TrackFull.
-  Result<ReqParams> get_req_params(ServerId server) noexcept {
-    return Calls::of<ReqParams>([&](ReqParams *params) {
-      dmc_stamp stamp = {0, 0};
-      const std::uint32_t code = dmc_tracker_stamp(&tracker_, server.value(), &stamp);
-      *params = {stamp.delta, stamp.rho};
-      return code;
-    });
+  /// Stamps a request of a cost to a server: what it returns has the cost too. NoneHeld, BadCost, NoServer, TrackFull.
+  Result<ReqParams> get_req_params(ServerId server, std::uint32_t cost = 1) noexcept {
+    return Calls::of_stamp([&](dmc_stamp *stamp) { return dmc_tracker_stamp(&tracker_, server.value(), cost, stamp); });
   }
 
   /// Skips what is pending at a server: the next stamp to it counts only later completions. It sends nothing. Where a stamp is
@@ -497,9 +532,10 @@ class Tracker {
     return static_cast<Code>(dmc_tracker_skip(&tracker_, server.value()));
   }
 
-  /// Counts a completion: the response to a request that a server granted in a phase. NoneHeld, BadPhase, NoServer, TrackFull.
-  [[nodiscard]] Code track_resp(ServerId server, PhaseType phase) noexcept {
-    return static_cast<Code>(dmc_tracker_respond(&tracker_, server.value(), static_cast<std::uint32_t>(phase)));
+  /// Counts a completion: the response to a request of a cost that a server granted in a phase. NoneHeld, BadPhase, BadCost,
+  /// NoServer, TrackFull.
+  [[nodiscard]] Code track_resp(ServerId server, PhaseType phase, std::uint32_t cost = 1) noexcept {
+    return static_cast<Code>(dmc_tracker_respond(&tracker_, server.value(), static_cast<std::uint32_t>(phase), cost));
   }
 
   /// What it knows of a server. NoneHeld, NoServer.
@@ -510,6 +546,65 @@ class Tracker {
  private:
   dmc_tracker tracker_ = DMC_TRACKER_NONE;
 };
+
+/// The tracker of a client for the shards of one server, each with a queue of its own. To the rules a shard is a server: each queue
+/// has the client's full rates.
+class ShardTracker {
+ public:
+  /// A tracker of shards 0, 1, .. (1 to 64 of them), to which deltas of `most` in all can come (1 to 2^62). Limit, Memory.
+  static Result<ShardTracker> make(std::uint32_t shards, std::uint64_t most) noexcept {
+    return Calls::of<ShardTracker>([&](ShardTracker *made) { return dmc_shards_new(&made->shards_, shards, most); });
+  }
+
+  /// No tracker: each call is NoneHeld.
+  ShardTracker() noexcept = default;
+  /// Takes the tracker of another, which is left with none.
+  ShardTracker(ShardTracker &&other) noexcept : shards_(std::exchange(other.shards_, dmc_shards_none())) {}
+  /// Ends its tracker, and takes that of another, which is left with none.
+  ShardTracker &operator=(ShardTracker &&other) noexcept {
+    ShardTracker taken(std::move(other));
+    std::swap(shards_, taken.shards_);
+    return *this;
+  }
+  ShardTracker(const ShardTracker &) = delete;
+  ShardTracker &operator=(const ShardTracker &) = delete;
+  /// Ends the tracker.
+  ~ShardTracker() { dmc_shards_free(&shards_); }
+
+  /// A request that came in with this stamp goes to a shard: what it returns is the stamp for the shard's queue, with all
+  /// that came in since the last stamp for this shard, and the request's cost. NoneHeld, BadParams, BadCost, NoServer,
+  /// TrackFull.
+  Result<ReqParams> arrive(ServerId shard, ReqParams params) noexcept {
+    return Calls::of_stamp([&](dmc_stamp *stamp) { return dmc_shards_arrive(&shards_, shard.value(), stamp); },
+                           {params.delta, params.rho, params.cost});
+  }
+
+  /// The shard's queue refused the request of this stamp, which arrive() made: the next stamp for the shard carries its counts too.
+  /// NoneHeld, BadParams, BadCost, NoServer, NotSent.
+  [[nodiscard]] Code give_back(ServerId shard, ReqParams params) noexcept {
+    const dmc_stamp stamp = {params.delta, params.rho, params.cost};
+    return static_cast<Code>(dmc_shards_give_back(&shards_, shard.value(), &stamp));
+  }
+
+  /// Skips what is pending at a shard: the next stamp for it counts only what comes later. It sends nothing. If an arrival is
+  /// TrackFull for its delta, since the client sent nothing to the shard for more than 2^32-1, this ends that. NoneHeld, NoServer.
+  [[nodiscard]] Code skip(ServerId shard) noexcept { return static_cast<Code>(dmc_shards_skip(&shards_, shard.value())); }
+
+  /// What it knows of a shard; its completions are what came in. NoneHeld, NoServer.
+  Result<TrackStatus> status(ServerId shard) noexcept {
+    return Calls::of<TrackStatus>([&](dmc_track *track) { return dmc_shards_status(&shards_, shard.value(), track); });
+  }
+
+ private:
+  dmc_shards shards_ = DMC_SHARDS_NONE;
+};
+
+inline Result<ReqParams> ReqParams::with_returned(ReqParams returned, Counting counting) const noexcept {
+  const dmc_stamp other = {returned.delta, returned.rho, returned.cost};
+  return Calls::of_stamp(
+      [&](dmc_stamp *stamp) { return dmc_stamp_with_returned(stamp, &other, static_cast<std::uint32_t>(counting)); },
+      {delta, rho, cost});
+}
 
 inline Result<Moment> Moment::from_nanos(std::uint64_t hz, std::uint64_t nanos) noexcept {
   return Calls::of<Moment>([&](Moment *moment) {

@@ -1,4 +1,5 @@
-/* Two servers with a queue each, three clients with a tracker each, in both counting forms, and what is refused. */
+/* Two servers with a queue each, three clients with a tracker each, in both counting forms, requests that cost more than one, and what
+   is refused. */
 #include "dmclock.h"
 
 #include <inttypes.h>
@@ -8,6 +9,9 @@
 enum { SERVERS = 2, CLIENTS = 3, ROUNDS = 4 };
 
 static const char *phases[] = {"reservation", "priority"};
+
+/* What a request of each client costs: that of client 2 is as much work as two of the others. */
+static const uint32_t costs[CLIENTS] = {1, 1, 2};
 
 /* Ends the program where a call that has to be accepted is not. */
 static void must(uint32_t code) {
@@ -32,14 +36,14 @@ static void show_tags(struct dmc_tags tags) {
   printf("\n");
 }
 
-/* A client's request reaches a server with the counts of its stamp. */
+/* A client's request reaches a server with the counts of its stamp and its cost. */
 static void send(struct dmc_queue *queue, struct dmc_tracker *tracker, uint32_t server, uint32_t client, uint32_t token,
                  uint64_t at) {
   struct dmc_stamp stamp;
   struct dmc_tags tags;
-  must(dmc_tracker_stamp(tracker, server, &stamp));
-  must(dmc_queue_add(queue, client, token, stamp.delta, stamp.rho, at, &tags));
-  printf("server %u client %u token %u delta %u rho %u: ", server, client, token, stamp.delta, stamp.rho);
+  must(dmc_tracker_stamp(tracker, server, costs[client], &stamp));
+  must(dmc_queue_add(queue, client, token, stamp.delta, stamp.rho, stamp.cost, at, &tags));
+  printf("server %u client %u token %u delta %u rho %u cost %u: ", server, client, token, stamp.delta, stamp.rho, stamp.cost);
   show_tags(tags);
 }
 
@@ -50,7 +54,7 @@ static void serve(struct dmc_queue *queue, struct dmc_tracker *trackers, uint32_
     must(dmc_queue_pull(queue, at, &pulled));
     if (pulled.kind != DMC_GRANTED) break;
     printf("server %u grants client %u token %u in phase %s\n", server, pulled.client, pulled.token, phases[pulled.phase]);
-    must(dmc_tracker_respond(&trackers[pulled.client], server, pulled.phase));
+    must(dmc_tracker_respond(&trackers[pulled.client], server, pulled.phase, pulled.cost));
   }
   if (pulled.kind == DMC_FUTURE) printf("server %u: the next is due at %" PRIu64 "\n", server, pulled.due_low);
 }
@@ -104,7 +108,7 @@ static void run_refusals(void) {
   struct dmc_tags tags;
   struct dmc_stamp stamp;
   printf("-- refusals\n");
-  printf("an add to no queue: %s\n", dmc_text(dmc_queue_add(&queue, 1, 1, 0, 0, 0, &tags)));
+  printf("an add to no queue: %s\n", dmc_text(dmc_queue_add(&queue, 1, 1, 0, 0, 1, 0, &tags)));
   printf("0 ticks a second: %s\n", dmc_text(dmc_queue_new(&queue, &no_ticks)));
   must(dmc_queue_new(&queue, &config));
   printf("a second queue in one struct: %s\n", dmc_text(dmc_queue_new(&queue, &config)));
@@ -112,18 +116,19 @@ static void run_refusals(void) {
   printf("a third of a tick: %s\n", dmc_text(dmc_queue_register(&queue, 1, 0, 3, 0, 0)));
   must(dmc_queue_register(&queue, 1, 0, 1, 0, 0));
   printf("a client twice: %s\n", dmc_text(dmc_queue_register(&queue, 1, 0, 1, 0, 0)));
-  printf("a request of another: %s\n", dmc_text(dmc_queue_add(&queue, 2, 1, 0, 0, 0, &tags)));
-  printf("a rho past its delta: %s\n", dmc_text(dmc_queue_add(&queue, 1, 1, 0, 1, 0, &tags)));
-  must(dmc_queue_add(&queue, 1, 1, 0, 0, 0, &tags));
+  printf("a request of another: %s\n", dmc_text(dmc_queue_add(&queue, 2, 1, 0, 0, 1, 0, &tags)));
+  printf("a rho past its delta: %s\n", dmc_text(dmc_queue_add(&queue, 1, 1, 0, 1, 1, 0, &tags)));
+  printf("a cost of 0: %s\n", dmc_text(dmc_queue_add(&queue, 1, 1, 0, 0, 0, 0, &tags)));
+  must(dmc_queue_add(&queue, 1, 1, 0, 0, 1, 0, &tags));
   printf("a reservation amid requests: %s\n", dmc_text(dmc_queue_update(&queue, 1, 10, 1, 0, 0)));
   must(dmc_tracker_new(&tracker, 1, 1, DMC_OTHERS));
-  printf("a stamp to no server: %s\n", dmc_text(dmc_tracker_stamp(&tracker, 1, &stamp)));
-  must(dmc_tracker_stamp(&tracker, 0, &stamp));
-  printf("a stamp past `most`: %s\n", dmc_text(dmc_tracker_stamp(&tracker, 0, &stamp)));
-  printf("no phase: %s\n", dmc_text(dmc_tracker_respond(&tracker, 0, 2)));
+  printf("a stamp to no server: %s\n", dmc_text(dmc_tracker_stamp(&tracker, 1, 1, &stamp)));
+  must(dmc_tracker_stamp(&tracker, 0, 1, &stamp));
+  printf("a stamp past `most`: %s\n", dmc_text(dmc_tracker_stamp(&tracker, 0, 1, &stamp)));
+  printf("no phase: %s\n", dmc_text(dmc_tracker_respond(&tracker, 0, 2, 1)));
   dmc_tracker_free(&tracker);
   dmc_queue_free(&queue);
-  printf("a response after the end: %s\n", dmc_text(dmc_tracker_respond(&tracker, 0, 0)));
+  printf("a response after the end: %s\n", dmc_text(dmc_tracker_respond(&tracker, 0, 0, 1)));
 }
 
 int main(void) {

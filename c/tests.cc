@@ -59,7 +59,8 @@ static std::string reply(const Result<Pulled> &pulled) {
   switch (pulled->kind()) {
     case Pulled::Kind::Returning:
       return "grant " + std::to_string(pulled->client().value()) + " " + std::to_string(pulled->token().value()) +
-             (pulled->phase() == PhaseType::Reservation ? " reservation" : " priority") + (pulled->beyond() ? " beyond" : "");
+             (pulled->phase() == PhaseType::Reservation ? " reservation" : " priority") + (pulled->beyond() ? " beyond" : "") +
+             (pulled->cost() == 1 ? "" : " cost " + std::to_string(pulled->cost()));
     case Pulled::Kind::Future: return pulled->due().high != 0 ? "future far" : "future " + std::to_string(pulled->due().low);
     case Pulled::Kind::Nothing: return "none";
   }
@@ -77,6 +78,18 @@ struct Words {
   }
   ClientId client() { return ClientId(number<std::uint32_t>()); }
   Moment at() { return Moment(number<std::uint64_t>()); }
+  Counting counting() {
+    std::string word;
+    line >> word;
+    return word == "all" ? Counting::All : word == "others" ? Counting::Others : static_cast<Counting>(2);
+  }
+  // The parameters of a request that ends with its moment, or with its moment and its cost.
+  std::pair<ReqParams, Moment> request() {
+    const auto delta = number<std::uint32_t>(), rho = number<std::uint32_t>();
+    const Moment moment = at();
+    std::string word;
+    return {line >> word ? ReqParams{delta, rho, number<std::uint32_t>()} : ReqParams{delta, rho}, moment};
+  }
   std::optional<std::uint32_t> rate() {
     std::string word;
     line >> word;
@@ -104,10 +117,15 @@ static std::string run_line(Queue &queue, const std::string &line) {
     const auto removed = queue.remove_by_client(client);
     return removed ? "dropped " + std::to_string(*removed) : refused(removed.code());
   }
+  if (verb == "cancel") {
+    const Token token(words.number<std::uint32_t>());
+    const auto removed = queue.cancel(client, token, words.counting());
+    return removed ? "dropped " + std::to_string(*removed) : refused(removed.code());
+  }
   if (verb == "add") {
     const Token token(words.number<std::uint32_t>());
-    const auto delta = words.number<std::uint32_t>(), rho = words.number<std::uint32_t>();
-    return reply(queue.add_request(client, token, {delta, rho}, words.at()));
+    const auto [params, at] = words.request();
+    return reply(queue.add_request(client, token, params, at));
   }
   const ClientInfo info = words.info();
   return verb == "client" ? done(queue.register_client(client, info, words.at()), "ok")
@@ -158,6 +176,29 @@ static void run_scripts() {
   expect_text("exact_thirds",
               replies(with(1000, AtLimit::Wait, TagKind::Ratio), "client 1 - 3 - 0; add 1 1 1 0 0; add 1 2 1 0 0; add 1 3 1 0 0"),
               "ok; tags - 0 1000/3; tags - 0 2000/3; tags - 0 1000");
+  expect_text("a_request_of_four",
+              replies(ticks,
+                      "client 1 100 1 - 0; client 2 - 1 - 0; add 1 11 0 0 0 cost 4; add 1 12 4 0 0 cost 4; add 2 21 0 0 0; pull 0; "
+                      "pull 0; pull 0; pull 0"),
+              "ok; ok; tags 0 0 0; tags 0 0 4000; tags - 0 0; grant 1 11 reservation cost 4; grant 1 12 reservation cost 4; "
+              "grant 2 21 priority; none");
+  const std::string three = "client 1 10 1 - 0; add 1 11 0 0 0; add 1 12 8 8 0 cost 4; add 1 13 4 4 0; pull 0; pull 0; ";
+  const std::string two_of_three =
+      "ok; tags 0 0 0; tags 800 0 8000; tags 1200 0 12000; grant 1 11 reservation; grant 1 12 priority cost 4; ";
+  expect_text("reduced_by_the_cost", replies(ticks, three + "pull 799"), two_of_three + "grant 1 13 priority");
+  expect_text("reduced_by_the_cost, a tick later", replies(ticks, three + "pull 800"), two_of_three + "grant 1 13 reservation");
+  const std::string four = "client 1 - 1 10 0; add 1 11 1 1 0; add 1 12 1 1 0; add 1 13 1 1 0; add 1 14 1 1 250; ";
+  const std::string four_tags = "ok; tags - 100 1000; tags - 200 2000; tags - 300 3000; tags - 400 4000; ";
+  expect_text("cancelled",
+              replies(ticks, four + "cancel 1 12 others; pull 100; pull 200; pull 299; cancel 1 14 others; add 1 15 1 1 299"),
+              four_tags + "dropped 1; grant 1 11 priority; grant 1 13 priority; future 300; dropped 1; tags - 350 3000");
+  expect_text("cancelled, idle between",
+              replies(ticks,
+                      "client 1 - 1 10 0; add 1 11 1 1 0; add 1 12 1 1 200; add 1 13 1 1 200; cancel 1 12 others; "
+                      "cancel 1 11 others; pull 250; pull 300"),
+              "ok; tags - 100 1000; tags - 200 2000; tags - 300 3000; dropped 1; dropped 1; future 300; grant 1 13 priority");
+  expect_text("cancelled, all", replies(ticks, four + "cancel 1 12 all; pull 100; pull 200; pull 299; pull 300"),
+              four_tags + "dropped 1; grant 1 11 priority; future 300; future 300; grant 1 13 priority");
   expect_text("idle_then_erased",
               replies({1000, 100, 1000},
                       "client 1 - 1 - 0; clean 100; add 1 1 0 0 100; pull 100; clean 199; clean 200; clean 1099; clean 1100; "
@@ -171,10 +212,12 @@ static void run_scripts() {
   expect_text("refused_values",
               replies(ticks, "client 1 - 1 - 0; client 1 - 0 - " + greatest + "; client 1 - 0 - 0; client 1 3 3 3 0; " +
                                  "client 2 3 3 3 0; client 2 10 3 3 0; client 2 10 1 3 0; add 2 1 0 1 " + greatest +
-                                 "; add 2 1 0 1 0; add 2 1 0 0 0; pull " + greatest + "; clean " + greatest + "; drop 2"),
+                                 "; add 2 1 0 1 0; add 2 1 0 1 0 cost 0; add 2 1 0 0 0 cost 0; add 2 1 0 0 0; pull " + greatest + "; clean " + greatest +
+                                 "; drop 2; cancel 2 1 none; cancel 2 1 others; cancel 1 1 others"),
               "ok; refused bad moment; refused bad rate; refused known; refused inexact reservation; refused inexact weight; "
-              "refused inexact limit; refused bad moment; refused bad params; refused unknown; refused bad moment; "
-              "refused bad moment; refused unknown");
+              "refused inexact limit; refused bad moment; refused bad params; refused bad params; refused bad cost; "
+              "refused unknown; refused bad moment; refused bad moment; refused unknown; refused bad config; refused unknown; "
+              "dropped 0");
   expect_text("a rate of 0 that is there",
               replies(ticks, "client 1 0 1 - 0; client 1 - 1 0 " + greatest + "; client 1 - 1 - 0; update 1 0 1 - 0; update 1 - 1 0 0"),
               "refused bad rate; refused bad moment; ok; refused bad rate; refused bad rate");
@@ -207,17 +250,21 @@ static void run_configs() {
 
 // ---- trackers
 
-static std::string stamp(Tracker &tracker, std::uint32_t server) {
-  const auto params = tracker.get_req_params(ServerId(server));
-  return params ? "(" + std::to_string(params->delta) + "," + std::to_string(params->rho) + "); " : refused(params.code());
+static std::string reply(const Result<ReqParams> &params) {
+  if (!params) return refused(params.code());
+  return "(" + std::to_string(params->delta) + "," + std::to_string(params->rho) + ")" +
+         (params->cost == 1 ? "" : " cost " + std::to_string(params->cost)) + "; ";
 }
 
-static std::string status(Tracker &tracker, std::uint32_t server) {
-  const TrackStatus s = tracker.status(ServerId(server)).value();
+static std::string stamp(Tracker &tracker, std::uint32_t server) { return reply(tracker.get_req_params(ServerId(server))); }
+
+static std::string shown(const TrackStatus &s) {
   const auto pair = [](std::uint64_t a, std::uint64_t b) { return "(" + std::to_string(a) + "," + std::to_string(b) + ")"; };
   return "sent " + pair(s.sent_delta(), s.sent_rho()) + " pending " + pair(s.pending_delta(), s.pending_rho()) +
          " completions " + pair(s.completions(), s.reservation()) + "; ";
 }
+
+static std::string status(Tracker &tracker, std::uint32_t server) { return shown(tracker.status(ServerId(server)).value()); }
 
 static std::string three_stamps(Counting counting) {
   Tracker tracker = Tracker::make(2, 10, counting).value();
@@ -238,6 +285,60 @@ static std::string skip_between(Counting counting) {
   all += status(tracker, 1);
   all += stamp(tracker, 0);
   return all + stamp(tracker, 1);
+}
+
+// A stamp of this cost and its response, another stamp and a response of another request, and a last stamp.
+static std::string stamps_of_costs(Counting counting, std::uint32_t first, std::uint32_t second, std::uint32_t other,
+                                   std::uint32_t last) {
+  Tracker tracker = Tracker::make(2, 100, counting).value();
+  std::string all = reply(tracker.get_req_params(ServerId(0), first));
+  all += done(tracker.track_resp(ServerId(0), PhaseType::Reservation, first), "ok; ");
+  all += reply(tracker.get_req_params(ServerId(1), second));
+  all += done(tracker.track_resp(ServerId(1), PhaseType::Priority, other), "ok; ");
+  all += reply(tracker.get_req_params(ServerId(0), last));
+  return all + status(tracker, 0);
+}
+
+static void run_costs() {
+  expect_text("costs_are_counted", stamps_of_costs(Counting::All, 8, 1, 2, 1),
+              "(0,0) cost 8; ok; (8,8); ok; (10,8); sent (10,8) pending (0,0) completions (10,8); ");
+  expect_text("costs_are_counted, others", stamps_of_costs(Counting::Others, 8, 3, 3, 1),
+              "(8,8) cost 8; ok; (11,11) cost 3; ok; (4,1); sent (12,9) pending (0,0) completions (11,8); ");
+  Tracker tracker = Tracker::make(1, 9, Counting::All).value();
+  expect("no cost", tracker.get_req_params(ServerId(9), 0).code() == Code::BadCost &&
+                        tracker.track_resp(ServerId(9), static_cast<PhaseType>(2), 0) == Code::BadPhase &&
+                        tracker.track_resp(ServerId(9), PhaseType::Priority, 0) == Code::BadCost &&
+                        tracker.track_resp(ServerId(0), PhaseType::Priority, 10) == Code::TrackFull);
+  const ClientId client(1);
+  const Moment zero(0);
+  Queue queue = Queue::make(ticks).value();
+  bool all = queue.register_client(client, {std::nullopt, 1, 10}, zero) == Code::Ok;
+  all = tracker.track_resp(ServerId(0), PhaseType::Priority, 3) == Code::Ok && all;
+  const ReqParams params = tracker.get_req_params(ServerId(0), 5).value();
+  expect_text("a stamp has its cost", reply(queue.add_request(client, Token(1), params, zero)), "tags - 300 3000");
+  expect_text("a grant has it too", reply(queue.pull_request(Moment(300))), "grant 1 1 priority cost 5");
+  expect_text("a single server", reply(queue.add_request_single(client, Token(2), zero)), "tags - 400 4000");
+  expect_text("a single server counts costs", reply(queue.add_request_single(client, Token(3), zero, 4)), "tags - 800 8000");
+  const bool refused = queue.add_request_single(client, Token(4), zero, 0).code() == Code::BadCost;
+  const Pulled pulled = queue.pull_request(zero).value();
+  expect("only a grant has a cost", all && refused && pulled.kind() == Pulled::Kind::Future && pulled.cost() == 0);
+}
+
+static void run_returned() {
+  const ReqParams params = {3, 1, 2}, returned = {7, 5, 4};
+  expect_text("returned", reply(params.with_returned(returned, Counting::All)), "(10,6) cost 2; ");
+  expect_text("returned, others", reply(params.with_returned(returned, Counting::Others)), "(6,2) cost 2; ");
+  const ReqParams full = {~0u - 6, 0};
+  expect_text("returned to the greatest delta", reply(full.with_returned({6, 2}, Counting::All)), "(4294967295,2); ");
+  expect_text("returned to the greatest delta, others", reply(full.with_returned({7, 3}, Counting::Others)), "(4294967295,2); ");
+  expect("returned past the greatest delta", full.with_returned({7, 2}, Counting::All).code() == Code::TrackFull &&
+                                                 full.with_returned({8, 3}, Counting::Others).code() == Code::TrackFull);
+  const ReqParams no_counts = {0, 1, 0}, no_cost = {0, 0, 0};
+  expect("returned values", no_counts.with_returned(no_counts, static_cast<Counting>(2)).code() == Code::BadConfig &&
+                                no_counts.with_returned(no_cost, Counting::All).code() == Code::BadParams &&
+                                no_cost.with_returned(no_counts, Counting::All).code() == Code::BadCost &&
+                                params.with_returned(no_counts, Counting::All).code() == Code::BadParams &&
+                                params.with_returned(no_cost, Counting::All).code() == Code::BadCost);
 }
 
 static void run_trackers() {
@@ -264,6 +365,39 @@ static void run_trackers() {
   expect("a tracker of 2^62", Tracker::make(1, most, Counting::All).ok() &&
                                   Tracker::make(1, most + 1, Counting::All).code() == Code::Limit);
   expect("no form", Tracker::make(65, 1, static_cast<Counting>(2)).code() == Code::BadConfig);
+}
+
+// ---- shards
+
+static std::string status(ShardTracker &shards, std::uint32_t shard) { return shown(shards.status(ServerId(shard)).value()); }
+
+// A request to shard 0, one to shard 1 that its queue refuses, and one to shard 1 again.
+static void run_shards() {
+  ShardTracker shards = ShardTracker::make(2, 6).value();
+  std::string all = reply(shards.arrive(ServerId(0), {2, 1}));
+  const ReqParams refused = shards.arrive(ServerId(1), {3, 0, 4}).value();
+  all += done(shards.give_back(ServerId(1), refused), "ok; ");
+  all += reply(shards.arrive(ServerId(1), {1, 1, 2}));
+  expect_text("two_shards", all + status(shards, 0) + status(shards, 1),
+              "(2,1); ok; (6,2) cost 2; sent (2,1) pending (4,1) completions (6,2); "
+              "sent (6,2) pending (0,0) completions (6,2); ");
+  expect("not sent", refused.delta == 5 && refused.rho == 1 && refused.cost == 4 &&
+                         shards.give_back(ServerId(0), refused) == Code::NotSent);
+  expect("shards full", shards.arrive(ServerId(0), {1, 0}).code() == Code::TrackFull &&
+                            shards.arrive(ServerId(2), {1, 0}).code() == Code::NoServer &&
+                            shards.status(ServerId(2)).code() == Code::NoServer);
+  ShardTracker stuck = ShardTracker::make(2, std::uint64_t(1) << 62).value();
+  const ReqParams widest = stuck.arrive(ServerId(0), {UINT32_MAX, 1}).value();
+  const bool refuses_next = stuck.arrive(ServerId(1), {1, 0}).code() == Code::TrackFull;
+  all = done(stuck.skip(ServerId(1)), "ok; ");
+  all += reply(stuck.arrive(ServerId(1), {1, 0}));
+  expect_text("skipped_shard", all + status(stuck, 1), "ok; (1,0); sent (1,0) pending (0,0) completions (4294967296,1); ");
+  expect("a shard that is not used", widest.delta == UINT32_MAX && refuses_next && stuck.skip(ServerId(2)) == Code::NoServer &&
+                                         ShardTracker().skip(ServerId(0)) == Code::NoneHeld);
+  ShardTracker other = std::move(shards);
+  expect("a shard tracker moved", other.status(ServerId(0)).ok() && shards.status(ServerId(0)).code() == Code::NoneHeld &&
+                                      ShardTracker().arrive(ServerId(0), {1, 1}).code() == Code::NoneHeld);
+  expect("65 shards", ShardTracker::make(65, 1).code() == Code::Limit);
 }
 
 // ---- limits
@@ -305,6 +439,7 @@ static_assert(sizeof(Queue) == sizeof(dmc_queue) && sizeof(Tracker) == sizeof(dm
 static_assert(!std::is_convertible_v<std::uint32_t, ClientId> && !std::is_convertible_v<ClientId, std::uint32_t>);
 static_assert(!std::is_constructible_v<ClientId, Token> && !std::is_constructible_v<ClientId, ServerId>);
 static_assert(!std::is_convertible_v<std::uint64_t, Moment>);
+static_assert(ReqParams{2, 1}.cost == 1 && ReqParams{2, 1, 3}.cost == 3 && std::is_aggregate_v<ReqParams>);
 static_assert(ClientId(1) < ClientId(2) && Moment(2) >= Moment(2) && Token(3) != Token(4));
 
 static void run_moves() {
@@ -328,6 +463,7 @@ static void run_moves() {
   std::thread([&count, queue = std::move(many[3])]() mutable { count = queue.client_count().value(); }).join();
   expect("in another thread", count == 1);
   expect("none", Queue().client_count().code() == Code::NoneHeld &&
+                     Queue().cancel(client, Token(1), static_cast<Counting>(2)).code() == Code::NoneHeld &&
                      Queue().register_client(client, {0, 1, {}}, zero) == Code::NoneHeld &&
                      Tracker().get_req_params(ServerId(0)).code() == Code::NoneHeld &&
                      Tracker().skip(ServerId(0)) == Code::NoneHeld &&
@@ -386,6 +522,9 @@ int main() {
   run_newcomers();
   run_configs();
   run_trackers();
+  run_shards();
+  run_costs();
+  run_returned();
   run_rates();
   run_limits();
   run_moves();

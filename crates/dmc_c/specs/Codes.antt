@@ -10,8 +10,10 @@ use Rattle.dmc_tag.specs.declared.reply.Reply.TheVariants as replies
 use Rattle.dmc_tracker.specs.declared.tracker.MakeFault.{MakeFault}
 use Rattle.dmc_tracker.specs.declared.tracker.MakeFault.TheVariants as makes
 use Rattle.dmc_tracker.specs.declared.tracker.TrackFault.TheVariants as tracks
+use Rattle.dmc_shards.specs.declared.tracker.GiveBackFault.{GiveBackFault}
+use Rattle.dmc_shards.specs.declared.tracker.GiveBackFault.TheVariants as backs
 use Rattle.dmc_c.specs.declared.fault.Fault.{Fault}
-use Rattle.dmc_c.specs.declared.fault.Fault.TheVariants.{NoneHeld, Held, Value, Phase, Limit, Track, Memory}
+use Rattle.dmc_c.specs.declared.fault.Fault.TheVariants.{NoneHeld, Held, Value, Phase, Limit, Track, NotSent, Memory}
 
 -- DMC_OK
 abbrev pub ok : ℕ
@@ -27,8 +29,10 @@ number (Value values.Rate) = 12
 number (Value values.Config) = 13
 number Phase = 14
 number Limit = 15
+number (Value values.Cost) = 16
 number (Track tracks.NoServer) = 30
 number (Track tracks.TrackFull) = 31
+number NotSent = 32
 
 abbrev pub refusal_number : Refusal → ℕ
 refusal_number Known = 20
@@ -57,3 +61,8 @@ reply_code (Err fault) = number fault
 abbrev pub make_fault : MakeFault → Fault
 make_fault makes.Limit = Limit
 make_fault makes.Memory = Memory
+
+-- why counts could not be given back
+abbrev pub give_back_fault : GiveBackFault → Fault
+give_back_fault backs.NoServer = Track tracks.NoServer
+give_back_fault backs.NotSent = NotSent

@@ -53,17 +53,17 @@ phase_number Reservation = 0
 phase_number Priority = 1
 
 abbrev pub nothing : DmcPulled
-nothing = record { kind = 2; client = 0; token = 0; phase = 0; beyond = false; due_low = 0; due_high = 0 }
+nothing = record { kind = 2; client = 0; token = 0; phase = 0; cost = 0; beyond = false; due_low = 0; due_high = 0 }
 
-abbrev pub granted : ClientId → Token → PhaseType → Bool → DmcPulled
-granted client token phase beyond = record nothing { kind = 0; client = client.0; token = token.0; phase = phase_number phase; beyond = beyond }
+abbrev pub granted : ClientId → Token → PhaseType → Bool → ℕ → DmcPulled
+granted client token phase beyond cost = record nothing { kind = 0; client = client.0; token = token.0; phase = phase_number phase; cost = cost; beyond = beyond }
 
 -- nothing is due before this moment
 abbrev pub future : ℕ → DmcPulled
 future due = record nothing { kind = 1; due_low = due % 2 ^ 64; due_high = due / 2 ^ 64 }
 
 abbrev pub pulled_written : Result (Reply Fraction) Fault → DmcPulled → DmcPulled
-pulled_written (Ok (Granted client token phase beyond)) old = granted client token phase beyond
+pulled_written (Ok (Granted client token phase beyond cost)) old = granted client token phase beyond cost
 pulled_written (Ok (Later due)) old = future due
 pulled_written (Ok Nothing) old = nothing
 pulled_written answer old = old
@@ -98,7 +98,7 @@ value_or_old (Err fault) old = old
 -- ---- trackers
 
 abbrev pub stamp_of : Params → DmcStamp
-stamp_of params = record { delta = params.delta; rho = params.rho }
+stamp_of params = record { delta = params.delta; rho = params.rho; cost = params.cost }
 
 abbrev pub stamp_written : Result Params Fault → DmcStamp → DmcStamp
 stamp_written (Ok params) old = stamp_of params

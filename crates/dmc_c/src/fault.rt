@@ -4,6 +4,7 @@ ghost use Rattle.dmc_c.specs.Codes.{number, refusal_number, code_of, reply_code}
 ghost use Rattle.dmc_c.specs.declared.fault.Fault.TheVariants.{Value, Track, Memory};
 
 use dmc_any_queue::fraction::TagFraction;
+use dmc_shards::tracker::GiveBackFault;
 use dmc_tag::reply::Reply;
 use dmc_tracker::tracker::{MakeFault, TrackFault};
 use dmc_types::refusal::{Field, Refusal, ValueFault};
@@ -24,6 +25,8 @@ pub enum Fault {
     Limit,
     /// The tracker refuses the call.
     Track(TrackFault),
+    /// More is given back to a shard tracker than was sent to the shard.
+    NotSent,
     /// The allocator refused a growth.
     Memory,
 }
@@ -73,6 +76,19 @@ impl From<MakeFault> for Fault {
     }
 }
 
+impl From<GiveBackFault> for Fault {
+    ghost use Rattle.dmc_c.specs.Codes.{give_back_fault};
+
+    ghost from_gives = { λ back fault. fault ≡ give_back_fault back };
+
+    fn from(back: GiveBackFault) -> Fault {
+        match back {
+            GiveBackFault::NoServer => Fault::Track(TrackFault::NoServer),
+            GiveBackFault::NotSent => Fault::NotSent,
+        }
+    }
+}
+
 impl Fault {
     /// Its number in the header.
     fn number(self) -> u32
@@ -88,8 +104,10 @@ impl Fault {
             Fault::Value(ValueFault::Config) => 13,
             Fault::Phase => 14,
             Fault::Limit => 15,
+            Fault::Value(ValueFault::Cost) => 16,
             Fault::Track(TrackFault::NoServer) => 30,
             Fault::Track(TrackFault::TrackFull) => 31,
+            Fault::NotSent => 32,
         }
     }
 }

@@ -12,7 +12,7 @@ use std::marker::Model;
 use std::mem::replace;
 use std::ptr::null_mut;
 
-/// The header's `struct dmc_queue` and `struct dmc_tracker`: a pointer to what is held, and 1; or 0 if nothing is held.
+/// The header's `struct dmc_queue`, `struct dmc_tracker` and `struct dmc_shards`: a pointer to what is held, and 1; or 0 if nothing is held.
 /// Contracts see what is held.
 #[repr(C)]
 pub struct Handle {
@@ -31,7 +31,7 @@ impl Model for Handle {
 unsafe impl Send for Handle {}
 
 impl Handle {
-    /// The header's `DMC_QUEUE_NONE` and `DMC_TRACKER_NONE`.
+    /// The header's `DMC_QUEUE_NONE`, `DMC_TRACKER_NONE` and `DMC_SHARDS_NONE`.
     pub fn none() -> Handle
         ensures { result.value ≡ None }
     {

@@ -4,20 +4,23 @@ ghost use Rattle.dmc_c.specs.Calls.{AtQueue, AtTracker, Asks, counts_of, Stamps,
 
 use crate::fault::Fault;
 use crate::outputs::DmcTrack;
+use crate::reading::Grant;
 use dmc_any_queue::any_queue::AnyQueue;
 use dmc_any_queue::fraction::TagFraction;
+use dmc_shards::tracker::ShardTracker;
 use dmc_tag::reply::Reply;
 use dmc_tracker::tracker::{ServiceTracker, TrackFault};
 use dmc_types::command::Command;
-use dmc_types::config::PhaseType;
+use dmc_types::cost::Cost;
 use dmc_types::ids::ServerId;
 use dmc_types::params::ReqParams;
 
-/// A queue or a tracker. A call that is for the other is refused `NoneHeld`.
+/// A queue, a tracker or a shard tracker. A call that is for another is refused `NoneHeld`.
 #[derive(Drop)]
 pub enum Kept {
     Queue(AnyQueue),
     Tracker(ServiceTracker),
+    Shards(ShardTracker),
 }
 
 impl Kept {
@@ -43,14 +46,15 @@ impl Kept {
         Ok((queue.client_count(), queue.request_count()))
     }
 
-    /// The tracker's stamp to a server.
-    pub fn stamp(&mut self, server: ServerId) -> Result<ReqParams, Fault>
-        ensures { AtTracker (Stamps server) self.old self.new result }
+    /// The tracker's stamp of a request to a server, if the number is a cost.
+    pub fn stamp(&mut self, server: ServerId, cost: Result<Cost, Fault>) -> Result<ReqParams, Fault>
+        ensures { AtTracker (Stamps server cost) self.old self.new result }
     {
         let Kept::Tracker(tracker) = self else {
             return Err(Fault::NoneHeld);
         };
-        Ok(tracker.get_req_params(server)?)
+        let cost = cost?;
+        Ok(tracker.get_req_params(server, cost)?)
     }
 
     /// Skips what is pending at a server.
@@ -63,19 +67,15 @@ impl Kept {
         Ok(tracker.skip(server)?)
     }
 
-    /// Counts a completion, which a server granted in a phase, if the number names one.
-    pub fn respond(
-        &mut self,
-        server: ServerId,
-        phase: Result<PhaseType, Fault>,
-    ) -> Result<(), Fault>
-        ensures { AtTracker (Responds server phase) self.old self.new result }
+    /// Counts a completion of a server, if the numbers name a grant.
+    pub fn respond(&mut self, server: ServerId, grant: Result<Grant, Fault>) -> Result<(), Fault>
+        ensures { AtTracker (Responds server grant) self.old self.new result }
     {
         let Kept::Tracker(tracker) = self else {
             return Err(Fault::NoneHeld);
         };
-        let phase = phase?;
-        Ok(tracker.track_resp(server, phase)?)
+        let grant = grant?;
+        Ok(tracker.track_resp(server, grant.phase, grant.cost)?)
     }
 
     /// What the tracker reports of a server.

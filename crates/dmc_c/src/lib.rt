@@ -1,7 +1,7 @@
-//! The queue and the tracker for back ends in C and C++: the exports that `c/dmclock.h` declares.
+//! The queue and the trackers for back ends in C and C++: the exports that `c/dmclock.h` declares.
 //!
-//! Each export is one call of a queue over heaps, or of a service tracker. None assumes anything of its arguments but what
-//! their types say. What is not `DMC_OK` leaves the queue or the tracker as it was, and writes nothing.
+//! Each export is one call of a queue over heaps, of a service tracker, or of a shard tracker. None assumes anything of its arguments but what
+//! their types say. What is not `DMC_OK` leaves what is held as it was, and writes nothing.
 #![tactic(auto)]
 
 mod fault;
@@ -12,6 +12,7 @@ mod outputs;
 mod queue;
 mod rates;
 mod reading;
+mod shards;
 #[cfg(test)]
 mod tests;
 mod tracker;

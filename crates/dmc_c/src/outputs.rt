@@ -6,6 +6,7 @@ use crate::fault::Fault;
 use dmc_any_queue::fraction::TagFraction;
 use dmc_tag::reply::{Reply, Tags};
 use dmc_types::config::PhaseType;
+use dmc_types::cost::Cost;
 use dmc_types::ids::{ClientId, Token};
 use dmc_types::params::ReqParams;
 
@@ -37,17 +38,19 @@ pub struct DmcPulled {
     pub client: u32,
     pub token: u32,
     pub phase: u32,
+    pub cost: u32,
     pub beyond: bool,
     pub due_low: u64,
     pub due_high: u64,
 }
 
-/// What a request is stamped with.
+/// What a request is stamped with, and what it costs.
 #[repr(C)]
 #[derive(Clone, Copy)]
 pub struct DmcStamp {
     pub delta: u32,
     pub rho: u32,
+    pub cost: u32,
 }
 
 /// What a tracker knows of a server, and its completions at all servers.
@@ -99,14 +102,21 @@ impl DmcPulled {
         client: 0,
         token: 0,
         phase: 0,
+        cost: 0,
         beyond: false,
         due_low: 0,
         due_high: 0,
     };
 
     /// A grant.
-    fn granted(client: ClientId, token: Token, phase: PhaseType, beyond: bool) -> DmcPulled
-        ensures { result ≡ granted client token phase beyond }
+    fn granted(
+        client: ClientId,
+        token: Token,
+        phase: PhaseType,
+        beyond: bool,
+        cost: Cost,
+    ) -> DmcPulled
+        ensures { result ≡ granted client token phase beyond cost }
     {
         let phase = match phase {
             PhaseType::Reservation => 0,
@@ -117,6 +127,7 @@ impl DmcPulled {
             client: client.0,
             token: token.0,
             phase,
+            cost: cost.units(),
             beyond,
             ..DmcPulled::NOTHING
         }
@@ -157,8 +168,9 @@ pub fn write_pulled(answer: &Result<Reply<TagFraction>, Fault>, out: &mut DmcPul
                 token,
                 phase,
                 beyond,
+                cost,
             },
-        ) => *out = DmcPulled::granted(*client, *token, *phase, *beyond),
+        ) => *out = DmcPulled::granted(*client, *token, *phase, *beyond, *cost),
         Ok(Reply::Later(due)) => *out = DmcPulled::future(*due),
         Ok(Reply::Nothing) => *out = DmcPulled::NOTHING,
         _ => {}
@@ -210,6 +222,7 @@ pub fn write_stamp(answer: &Result<ReqParams, Fault>, out: &mut DmcStamp)
         *out = DmcStamp {
             delta: params.delta(),
             rho: params.rho(),
+            cost: params.cost().units(),
         };
     }
 }
@@ -230,6 +243,6 @@ const _: () = prove!(size_of::<DmcTags>() == 80);
 
 const _: () = prove!(size_of::<DmcPulled>() == 40);
 
-const _: () = prove!(size_of::<DmcStamp>() == 8);
+const _: () = prove!(size_of::<DmcStamp>() == 12);
 
 const _: () = prove!(size_of::<DmcTrack>() == 48);

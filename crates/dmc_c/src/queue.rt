@@ -4,7 +4,7 @@ ghost use Rattle.dmc_tag.specs.Tag.{Fraction};
 ghost use Rattle.dmc_tag.specs.declared.reply.Reply.{Reply};
 ghost use Rattle.dmc_c.specs.declared.fault.Fault.{Fault};
 ghost use Rattle.dmc_c.specs.Codes.{code_of, reply_code};
-ghost use Rattle.dmc_c.specs.Reading.{register_command, update_command, add_command, pull_command, remove_command, clean_command};
+ghost use Rattle.dmc_c.specs.Reading.{register_command, update_command, add_command, pull_command, remove_command, cancel_command, clean_command};
 ghost use Rattle.dmc_c.specs.Outputs.{TagsWritten, pulled_written, removed_written, idled_written, erased_written, clients_written, requests_written};
 ghost use Rattle.dmc_c.specs.Calls.{AsksHeld, counts_held, new_queue, queue_opened, Opens};
 
@@ -15,8 +15,8 @@ use crate::outputs::{
     DmcPulled, DmcTags, write_cleaned, write_counts, write_pulled, write_removed, write_tags,
 };
 use crate::reading::{
-    DmcConfig, add_command, clean_command, pull_command, queue_config, register_command, tag_kind,
-    update_command,
+    DmcConfig, add_command, cancel_command, clean_command, pull_command, queue_config,
+    register_command, tag_kind, update_command,
 };
 use dmc_any_queue::any_queue::AnyQueue;
 use dmc_any_queue::fraction::TagFraction;
@@ -58,6 +58,22 @@ fn ask(
     let answer = held.ask(command);
     put(queue, held, alloc);
     answer
+}
+
+/// Takes requests out of the queue that is held, and writes how many.
+fn take_out(
+    queue: &mut Handle,
+    command: Result<Command, Fault>,
+    removed: &mut u32,
+    alloc: Global,
+) -> u32
+    ensures { (answer : Result (Reply Fraction) Fault)
+        × AsksHeld command queue.old.value queue.new.value answer
+        × (result ≡ reply_code answer) × (removed.new ≡ removed_written answer removed.old) }
+{
+    let answer = ask(queue, command, alloc);
+    write_removed(&answer, removed);
+    reply_code(&answer)
 }
 
 /// How many clients are registered and how many requests are queued, at the queue that is held.
@@ -133,8 +149,8 @@ pub extern "C" fn dmc_queue_update(
     reply_code(&answer)
 }
 
-/// Queues a request, and writes its tags: `DMC_NONE_HELD`, `DMC_BAD_MOMENT`, `DMC_BAD_PARAMS`, the refusals of an add,
-/// `DMC_MEMORY`.
+/// Queues a request of a cost, and writes its tags: `DMC_NONE_HELD`, `DMC_BAD_MOMENT`, `DMC_BAD_PARAMS`, `DMC_BAD_COST`, the
+/// refusals of an add, `DMC_MEMORY`.
 #[unsafe(no_mangle)]
 pub extern "C" fn dmc_queue_add(
     queue: &mut Handle,
@@ -142,15 +158,16 @@ pub extern "C" fn dmc_queue_add(
     token: u32,
     delta: u32,
     rho: u32,
+    cost: u32,
     at: u64,
     tags: &mut DmcTags,
     alloc: Global,
 ) -> u32
     ensures { (answer : Result (Reply Fraction) Fault)
-        × AsksHeld (add_command client token delta rho at) queue.old.value queue.new.value answer
+        × AsksHeld (add_command client token delta rho cost at) queue.old.value queue.new.value answer
         × (result ≡ reply_code answer) × TagsWritten answer tags.old tags.new }
 {
-    let command = add_command(client, token, delta, rho, at);
+    let command = add_command(client, token, delta, rho, cost, at);
     let answer = ask(queue, command, alloc);
     write_tags(&answer, tags);
     reply_code(&answer)
@@ -186,9 +203,26 @@ pub extern "C" fn dmc_queue_remove(
         × (result ≡ reply_code answer) × (removed.new ≡ removed_written answer removed.old) }
 {
     let client = ClientId(client);
-    let answer = ask(queue, Ok(Command::Remove { client }), alloc);
-    write_removed(&answer, removed);
-    reply_code(&answer)
+    take_out(queue, Ok(Command::Remove { client }), removed, alloc)
+}
+
+/// Takes back a client's queued requests with a token, and what they were charged if their stamps counted it, and writes how many
+/// they were: `DMC_NONE_HELD`, `DMC_BAD_CONFIG` if `counting` names no form, `DMC_UNKNOWN`.
+#[unsafe(no_mangle)]
+pub extern "C" fn dmc_queue_cancel(
+    queue: &mut Handle,
+    client: u32,
+    token: u32,
+    counting: u32,
+    removed: &mut u32,
+    alloc: Global,
+) -> u32
+    ensures { (answer : Result (Reply Fraction) Fault)
+        × AsksHeld (cancel_command client token counting) queue.old.value queue.new.value answer
+        × (result ≡ reply_code answer) × (removed.new ≡ removed_written answer removed.old) }
+{
+    let command = cancel_command(client, token, counting);
+    take_out(queue, command, removed, alloc)
 }
 
 /// Marks clients idle, erases old ones, and writes how many became idle and how many were erased: `DMC_NONE_HELD`,

@@ -1,10 +1,13 @@
-//! What numbers from C say: commands and settings. The values are judged in the order moment, params, rate.
+//! What numbers from C say: commands and settings. The values are judged in the order moment, params, cost, rate.
 ghost use Rattle.std.specs.Prelude.{◌≡◌};
-ghost use Rattle.dmc_c.specs.Reading.{moment, params, rate_of, rates, register_command, update_command, add_command, pull_command, clean_command, tag_kind, at_limit, shares, setting, config_of, counting, phase};
+ghost use Rattle.dmc_c.specs.Reading.{moment, params, cost, rate_of, rates, register_command, update_command, add_command, pull_command, cancel_command, clean_command, tag_kind, at_limit, shares, setting, config_of, counting, phase, grant_named, stamp_in, returned_into};
 
 use crate::fault::Fault;
+use crate::outputs::DmcStamp;
+use dmc_tracker::tracker::TrackFault;
 use dmc_types::command::Command;
 use dmc_types::config::{AtLimit, Counting, PhaseType, QueueConfig, Shares, TagKind};
+use dmc_types::cost::Cost;
 use dmc_types::ids::{ClientId, Token};
 use dmc_types::info::ClientInfo;
 use dmc_types::moment::Moment;
@@ -71,13 +74,38 @@ pub fn update_command(
     })
 }
 
+/// A cost.
+#[tactic(auto, unfolding(crate::specs::Reading::cost))]
+pub fn cost(units: u32) -> Result<Cost, Fault>
+    ensures { result ≡ cost units }
+{
+    Ok(Cost::new(units)?)
+}
+
+/// What a request carries.
+#[tactic(auto, unfolding(crate::specs::Reading::params))]
+pub fn stamped(delta: u32, rho: u32, units: u32) -> Result<ReqParams, Fault>
+    ensures { result ≡ stamp_in delta rho units }
+{
+    let params = ReqParams::new(delta, rho)?;
+    let cost = cost(units)?;
+    Ok(params.with_cost(cost))
+}
+
 /// A request.
-#[tactic(auto, unfolding(crate::specs::Reading::moment, crate::specs::Reading::params))]
-pub fn add_command(client: u32, token: u32, delta: u32, rho: u32, at: u64) -> Result<Command, Fault>
-    ensures { result ≡ add_command client token delta rho at }
+#[tactic(auto, unfolding(crate::specs::Reading::moment))]
+pub fn add_command(
+    client: u32,
+    token: u32,
+    delta: u32,
+    rho: u32,
+    cost: u32,
+    at: u64,
+) -> Result<Command, Fault>
+    ensures { result ≡ add_command client token delta rho cost at }
 {
     let at = Moment::new(at)?;
-    let params = ReqParams::new(delta, rho)?;
+    let params = stamped(delta, rho, cost)?;
     Ok(Command::Add {
         client: ClientId(client),
         token: Token(token),
@@ -93,6 +121,17 @@ pub fn pull_command(at: u64) -> Result<Command, Fault>
 {
     Ok(Command::Pull {
         at: Moment::new(at)?,
+    })
+}
+
+/// A cancel.
+pub fn cancel_command(client: u32, token: u32, form: u32) -> Result<Command, Fault>
+    ensures { result ≡ cancel_command client token form }
+{
+    Ok(Command::Cancel {
+        client: ClientId(client),
+        token: Token(token),
+        counting: counting(form)?,
     })
 }
 
@@ -183,6 +222,35 @@ pub fn phase(number: u32) -> Result<PhaseType, Fault>
         0 => Ok(PhaseType::Reservation),
         1 => Ok(PhaseType::Priority),
         _ => Err(Fault::Phase),
+    }
+}
+
+/// What a response is to: the phase of a grant, and its cost.
+#[derive(Clone, Copy)]
+pub struct Grant {
+    pub phase: PhaseType,
+    pub cost: Cost,
+}
+
+/// The grant that two numbers name.
+pub fn grant_named(phase_number: u32, units: u32) -> Result<Grant, Fault>
+    ensures { result ≡ grant_named phase_number units }
+{
+    let phase = phase(phase_number)?;
+    let cost = cost(units)?;
+    Ok(Grant { phase, cost })
+}
+
+/// A stamp with the counts of another one, which no server took.
+pub fn with_returned(stamp: &DmcStamp, returned: &DmcStamp, form: u32) -> Result<ReqParams, Fault>
+    ensures { result ≡ returned_into stamp.now returned.now form }
+{
+    let form = counting(form)?;
+    let params = stamped(stamp.delta, stamp.rho, stamp.cost)?;
+    let other = stamped(returned.delta, returned.rho, returned.cost)?;
+    match params.with_returned(other, form) {
+        Some(params) => Ok(params),
+        None => Err(Fault::Track(TrackFault::TrackFull)),
     }
 }
 

@@ -3,4 +3,5 @@ mod codes;
 mod queues;
 mod run;
 mod sent;
+mod shards;
 mod trackers;

@@ -12,9 +12,9 @@ use crate::fault::{Fault, code_of};
 use crate::handle::{Handle, check_vacant, fill, put, take};
 use crate::kept::Kept;
 use crate::outputs::{DmcStamp, DmcTrack, write_stamp, write_value};
-use crate::reading;
+use crate::reading::{self, Grant};
 use dmc_tracker::tracker::ServiceTracker;
-use dmc_types::config::PhaseType;
+use dmc_types::cost::Cost;
 use dmc_types::ids::ServerId;
 use dmc_types::params::ReqParams;
 use std::alloc::Global;
@@ -44,13 +44,18 @@ fn open_tracker(
 }
 
 /// The stamp to a server, by the tracker that is held.
-fn stamp(tracker: &mut Handle, server: ServerId, alloc: Global) -> Result<ReqParams, Fault>
-    ensures { StampsHeld server tracker.old.value tracker.new.value result }
+fn stamp(
+    tracker: &mut Handle,
+    server: ServerId,
+    cost: Result<Cost, Fault>,
+    alloc: Global,
+) -> Result<ReqParams, Fault>
+    ensures { StampsHeld server cost tracker.old.value tracker.new.value result }
 {
     let Some(mut held) = take(tracker, alloc) else {
         return Err(Fault::NoneHeld);
     };
-    let answer = held.stamp(server);
+    let answer = held.stamp(server, cost);
     put(tracker, held, alloc);
     answer
 }
@@ -71,15 +76,15 @@ fn skip(tracker: &mut Handle, server: ServerId, alloc: Global) -> Result<(), Fau
 fn respond(
     tracker: &mut Handle,
     server: ServerId,
-    phase: Result<PhaseType, Fault>,
+    grant: Result<Grant, Fault>,
     alloc: Global,
 ) -> Result<(), Fault>
-    ensures { RespondsHeld server phase tracker.old.value tracker.new.value result }
+    ensures { RespondsHeld server grant tracker.old.value tracker.new.value result }
 {
     let Some(mut held) = take(tracker, alloc) else {
         return Err(Fault::NoneHeld);
     };
-    let answer = held.respond(server, phase);
+    let answer = held.respond(server, grant);
     put(tracker, held, alloc);
     answer
 }
@@ -97,8 +102,8 @@ fn track(tracker: &mut Handle, server: ServerId, alloc: Global) -> Result<DmcTra
     answer
 }
 
-/// Makes a tracker of `servers` servers (1 to 64), which counts `most` completions (1 to 2^62): `DMC_HELD`,
-/// `DMC_BAD_CONFIG`, `DMC_LIMIT`, `DMC_MEMORY`.
+/// Makes a tracker of `servers` servers (1 to 64), which counts completions of at most `most` units of cost (1 to 2^62):
+/// `DMC_HELD`, `DMC_BAD_CONFIG`, `DMC_LIMIT`, `DMC_MEMORY`.
 #[unsafe(no_mangle)]
 pub extern "C" fn dmc_tracker_new(
     tracker: &mut Handle,
@@ -124,19 +129,21 @@ pub extern "C" fn dmc_tracker_free(tracker: &mut Handle, alloc: Global)
     }
 }
 
-/// Stamps a request to a server, and writes its counts: `DMC_NONE_HELD`, `DMC_NO_SERVER`, `DMC_TRACK_FULL`.
+/// Stamps a request of a cost to a server, and writes its counts and the cost: `DMC_NONE_HELD`, `DMC_BAD_COST`, `DMC_NO_SERVER`,
+/// `DMC_TRACK_FULL`.
 #[unsafe(no_mangle)]
 pub extern "C" fn dmc_tracker_stamp(
     tracker: &mut Handle,
     server: u32,
+    cost: u32,
     params: &mut DmcStamp,
     alloc: Global,
 ) -> u32
     ensures { (answer : Result Params Fault)
-        × StampsHeld (record { 0 = server }) tracker.old.value tracker.new.value answer
+        × StampsHeld (record { 0 = server }) (reading.cost cost) tracker.old.value tracker.new.value answer
         × (result ≡ code_of answer) × (params.new ≡ stamp_written answer params.old) }
 {
-    let answer = stamp(tracker, ServerId(server), alloc);
+    let answer = stamp(tracker, ServerId(server), reading::cost(cost), alloc);
     write_stamp(&answer, params);
     code_of(&answer)
 }
@@ -153,20 +160,42 @@ pub extern "C" fn dmc_tracker_skip(tracker: &mut Handle, server: u32, alloc: Glo
     code_of(&answer)
 }
 
-/// Counts a completion: a server completed a request that it granted in a phase. `DMC_NONE_HELD`, `DMC_BAD_PHASE`,
-/// `DMC_NO_SERVER`, `DMC_TRACK_FULL`.
+/// Counts a completion: a server completed a request of a cost that it granted in a phase. `DMC_NONE_HELD`, `DMC_BAD_PHASE`,
+/// `DMC_BAD_COST`, `DMC_NO_SERVER`, `DMC_TRACK_FULL`.
 #[unsafe(no_mangle)]
 pub extern "C" fn dmc_tracker_respond(
     tracker: &mut Handle,
     server: u32,
     phase: u32,
+    cost: u32,
     alloc: Global,
 ) -> u32
     ensures { (answer : Result ⊤ Fault)
-        × RespondsHeld (record { 0 = server }) (reading.phase phase) tracker.old.value tracker.new.value answer
+        × RespondsHeld (record { 0 = server }) (reading.grant_named phase cost) tracker.old.value tracker.new.value answer
         × (result ≡ code_of answer) }
 {
-    let answer = respond(tracker, ServerId(server), reading::phase(phase), alloc);
+    let answer = respond(
+        tracker,
+        ServerId(server),
+        reading::grant_named(phase, cost),
+        alloc,
+    );
+    code_of(&answer)
+}
+
+/// Puts the counts of `returned` into `stamp` besides: of a request to the same server that no server took, and that is given up.
+/// `DMC_BAD_CONFIG` if `counting` names no form, `DMC_BAD_PARAMS`, `DMC_BAD_COST`, `DMC_TRACK_FULL` if a count would pass 2^32 - 1.
+#[unsafe(no_mangle)]
+pub extern "C" fn dmc_stamp_with_returned(
+    stamp: &mut DmcStamp,
+    returned: &DmcStamp,
+    counting: u32,
+) -> u32
+    ensures code { result ≡ code_of (reading.returned_into stamp.old returned.now counting) }
+    ensures written { stamp.new ≡ stamp_written (reading.returned_into stamp.old returned.now counting) stamp.old }
+{
+    let answer = reading::with_returned(stamp, returned, counting);
+    write_stamp(&answer, stamp);
     code_of(&answer)
 }
 

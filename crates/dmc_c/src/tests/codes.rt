@@ -2,25 +2,26 @@
 use crate::fault::{Fault, code_of};
 use crate::handle::Handle;
 use crate::queue::{
-    dmc_queue_add, dmc_queue_clean, dmc_queue_counts, dmc_queue_free, dmc_queue_new,
-    dmc_queue_pull, dmc_queue_register, dmc_queue_remove, dmc_queue_update,
+    dmc_queue_add, dmc_queue_cancel, dmc_queue_clean, dmc_queue_counts, dmc_queue_free,
+    dmc_queue_new, dmc_queue_pull, dmc_queue_register, dmc_queue_remove, dmc_queue_update,
 };
 use crate::reading::DmcConfig;
 use crate::tests::run::{Line, RATIOS, TICKS, no_pull, no_tags, not_memory, replies};
 use crate::tracker::{dmc_tracker_new, dmc_tracker_respond};
-use Line::{Add, Clean, Client, Pull, Update};
+use Line::{Add, AddOfCost, Cancel, Clean, Client, Pull, Update};
 use std::alloc::{AllocError, Global};
 use std::test::Fail;
 
 /// Each call at a handle that holds no queue.
-fn none_held(queue: &mut Handle, alloc: Global) -> [u32; 7] {
+fn none_held(queue: &mut Handle, alloc: Global) -> [u32; 8] {
     let (mut tags, mut pulled, mut first, mut second) = (no_tags(), no_pull(), 9, 9);
     [
         dmc_queue_register(queue, 1, 0, 0, 0, 1 << 63, alloc),
         dmc_queue_update(queue, 1, 0, 0, 0, 1 << 63, alloc),
-        dmc_queue_add(queue, 1, 1, 0, 1, 1 << 63, &mut tags, alloc),
+        dmc_queue_add(queue, 1, 1, 0, 1, 0, 1 << 63, &mut tags, alloc),
         dmc_queue_pull(queue, 1 << 63, &mut pulled, alloc),
         dmc_queue_remove(queue, 1, &mut first, alloc),
+        dmc_queue_cancel(queue, 1, 1, 2, &mut first, alloc),
         dmc_queue_clean(queue, 1 << 63, &mut first, &mut second, alloc),
         dmc_queue_counts(queue, &mut first, &mut second, alloc),
     ]
@@ -40,15 +41,15 @@ fn held_or_not(rt: HostRuntime) -> Result<(), Fail> {
         ..TICKS
     };
     let again = dmc_queue_new(&mut queue, &wrong, alloc);
-    let no_tracker = dmc_tracker_respond(&mut queue, 0, 9, alloc);
+    let no_tracker = dmc_tracker_respond(&mut queue, 0, 9, 0, alloc);
     dmc_queue_free(&mut queue, alloc);
     let after = none_held(&mut queue, alloc);
     let tracker = dmc_tracker_new(&mut queue, 1, 1, 0, alloc);
     let confused = none_held(&mut queue, alloc);
     queue.end(alloc);
-    assert_eq!(rt; before, [2; 7]);
-    assert_eq!(rt; after, [2; 7]);
-    assert_eq!(rt; confused, [2; 7]);
+    assert_eq!(rt; before, [2; 8]);
+    assert_eq!(rt; after, [2; 8]);
+    assert_eq!(rt; confused, [2; 8]);
     let codes = [not_memory(made)?, again, no_tracker, not_memory(tracker)?];
     assert_eq!(rt; codes, [0, 3, 2, 0]);
     Ok(())
@@ -121,8 +122,9 @@ fn refused_values(rt: HostRuntime) -> Result<(), Fail> {
         Update(2, 3, 0, 3, (1 << 62) + 1),
         Update(2, 3, 0, 3, 0),
         Update(2, 3, 1, 3, 0),
-        Add(2, 1, 0, 1, (1 << 62) + 1),
-        Add(2, 1, 0, 1, 0),
+        AddOfCost(2, 1, 0, 1, 0, (1 << 62) + 1),
+        AddOfCost(2, 1, 0, 1, 0, 0),
+        AddOfCost(2, 1, 0, 0, 0, 0),
         Add(2, 1, 0, 0, 0),
         Pull((1 << 62) + 1),
         Clean((1 << 62) + 1),
@@ -133,7 +135,30 @@ fn refused_values(rt: HostRuntime) -> Result<(), Fail> {
     let written = replies(rt.alloc(), TICKS, &lines)?;
     assert_eq!(rt;
         written.as_str(),
-        "ok; code 10; code 12; code 20; code 22; code 23; code 24; code 10; code 12; code 21; code 10; code 11; code 21; code 10; code 10; code 21; tags - 0 0; grant 1 1 priority"
+        "ok; code 10; code 12; code 20; code 22; code 23; code 24; code 10; code 12; code 21; code 10; code 11; code 16; code 21; code 10; code 10; code 21; tags - 0 0; grant 1 1 priority"
+    );
+    Ok(())
+}
+
+/// A counting that is none, before a client that is none.
+#[test]
+fn refused_cancels(rt: HostRuntime) -> Result<(), Fail> {
+    let lines = [
+        Client(1, 0, 1, 0, 0),
+        Add(1, 7, 1, 1, 0),
+        Cancel(2, 7, 2),
+        Cancel(2, 7, u32::MAX),
+        Cancel(2, 7, 1),
+        Cancel(2, 7, 0),
+        Cancel(1, 7, 2),
+        Cancel(1, 8, 1),
+        Cancel(1, 7, 0),
+        Cancel(1, 7, 1),
+    ];
+    let written = replies(rt.alloc(), TICKS, &lines)?;
+    assert_eq!(rt;
+        written.as_str(),
+        "ok; tags - 0 1000; code 13; code 13; code 21; code 21; code 13; dropped 0; dropped 1; dropped 0"
     );
     Ok(())
 }
@@ -176,14 +201,14 @@ fn fill_queue(queue: &mut Handle, alloc: Global) -> Result<[u32; 8], AllocError>
     }
     let clients_full = dmc_queue_register(queue, 65_536, 0, 1, 0, 0, alloc);
     for token in 0..1_048_576 {
-        wrong |= not_memory(dmc_queue_add(queue, 0, token, 0, 0, 0, &mut tags, alloc))?;
+        wrong |= not_memory(dmc_queue_add(queue, 0, token, 0, 0, 1, 0, &mut tags, alloc))?;
     }
-    let queue_full = dmc_queue_add(queue, 0, 0, 0, 0, 0, &mut tags, alloc);
+    let queue_full = dmc_queue_add(queue, 0, 0, 0, 0, 1, 0, &mut tags, alloc);
     let (mut clients, mut requests) = (9, 9);
     let counted = dmc_queue_counts(queue, &mut clients, &mut requests, alloc);
     let mut pulled = no_pull();
     let pull = dmc_queue_pull(queue, 0, &mut pulled, alloc);
-    let accepted = dmc_queue_add(queue, 0, 0, 0, 0, 0, &mut tags, alloc);
+    let accepted = dmc_queue_add(queue, 0, 0, 0, 0, 1, 0, &mut tags, alloc);
     Ok([
         wrong,
         clients_full,

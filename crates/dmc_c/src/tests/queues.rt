@@ -1,7 +1,7 @@
 //! The worked examples of scripts, through the exports.
 use crate::reading::DmcConfig;
 use crate::tests::run::{Line, RATIOS, TICKS, replies};
-use Line::{Add, Clean, Client, Drop, Pull, Update};
+use Line::{Add, AddOfCost, Cancel, Clean, Client, Drop, Pull, Update};
 use std::test::Fail;
 
 #[test]
@@ -97,6 +97,52 @@ fn updates(rt: HostRuntime) -> Result<(), Fail> {
     assert_eq!(rt;
         written.as_str(),
         "ok; tags - 0 1000; updated; tags - 0 1500; code 28; dropped 2; updated; tags 100 0 2000; code 23; code 21"
+    );
+    Ok(())
+}
+
+#[test]
+fn cancelled(rt: HostRuntime) -> Result<(), Fail> {
+    let lines = [
+        Client(1, 0, 1, 10, 0),
+        Add(1, 11, 1, 1, 0),
+        Add(1, 12, 1, 1, 0),
+        Add(1, 13, 1, 1, 0),
+        Add(1, 14, 1, 1, 250),
+        Cancel(1, 12, 1),
+        Pull(100),
+        Pull(200),
+        Pull(299),
+        Cancel(1, 14, 1),
+        Add(1, 15, 1, 1, 299),
+    ];
+    let written = replies(rt.alloc(), TICKS, &lines)?;
+    assert_eq!(rt;
+        written.as_str(),
+        "ok; tags - 100 1000; tags - 200 2000; tags - 300 3000; tags - 400 4000; dropped 1; grant 1 11 priority; grant 1 13 priority; future 300; dropped 1; tags - 350 3000"
+    );
+    Ok(())
+}
+
+/// In the form All nothing is given back.
+#[test]
+fn cancelled_all(rt: HostRuntime) -> Result<(), Fail> {
+    let lines = [
+        Client(1, 0, 1, 10, 0),
+        Add(1, 11, 1, 1, 0),
+        Add(1, 12, 1, 1, 0),
+        Add(1, 13, 1, 1, 0),
+        Add(1, 14, 1, 1, 250),
+        Cancel(1, 12, 0),
+        Pull(100),
+        Pull(200),
+        Pull(299),
+        Pull(300),
+    ];
+    let written = replies(rt.alloc(), TICKS, &lines)?;
+    assert_eq!(rt;
+        written.as_str(),
+        "ok; tags - 100 1000; tags - 200 2000; tags - 300 3000; tags - 400 4000; dropped 1; grant 1 11 priority; future 300; future 300; grant 1 13 priority"
     );
     Ok(())
 }
@@ -198,5 +244,46 @@ fn newcomer_virtual(rt: HostRuntime) -> Result<(), Fail> {
         written.as_str(),
         "ok; ok; tags - 0 1000; tags - 0 2000; grant 1 11 priority; grant 1 12 priority; tags - 0 2000; tags - 0 3000; tags - 0 3000; grant 2 21 priority; grant 1 13 priority; grant 2 22 priority"
     );
+    Ok(())
+}
+
+#[test]
+fn cost_returned(rt: HostRuntime) -> Result<(), Fail> {
+    let lines = [
+        Client(1, 100, 1, 0, 0),
+        Client(2, 0, 1, 0, 0),
+        AddOfCost(1, 11, 0, 0, 4, 0),
+        AddOfCost(1, 12, 4, 0, 4, 0),
+        Add(2, 21, 0, 0, 0),
+        Pull(0),
+        Pull(0),
+        Pull(0),
+    ];
+    let written = replies(rt.alloc(), TICKS, &lines)?;
+    assert_eq!(rt;
+        written.as_str(),
+        "ok; ok; tags 0 0 0; tags 0 0 4000; tags - 0 0; grant 1 11 reservation cost 4; grant 1 12 reservation cost 4; grant 2 21 priority"
+    );
+    Ok(())
+}
+
+#[test]
+fn cost_reduces(rt: HostRuntime) -> Result<(), Fail> {
+    for (at, phase) in [(799, "priority"), (800, "reservation")] {
+        let lines = [
+            Client(1, 10, 1, 0, 0),
+            Add(1, 11, 0, 0, 0),
+            AddOfCost(1, 12, 8, 8, 4, 0),
+            Add(1, 13, 4, 4, 0),
+            Pull(0),
+            Pull(0),
+            Pull(at),
+        ];
+        let written = replies(rt.alloc(), TICKS, &lines)?;
+        let wanted = format!(in rt.alloc();
+            "ok; tags 0 0 0; tags 800 0 8000; tags 1200 0 12000; grant 1 11 reservation; grant 1 12 priority cost 4; grant 1 13 {phase}"
+        )?;
+        assert_eq!(rt; written.as_str(), wanted.as_str());
+    }
     Ok(())
 }

@@ -2,8 +2,8 @@
 use crate::handle::Handle;
 use crate::outputs::{DmcPulled, DmcTag, DmcTags};
 use crate::queue::{
-    dmc_queue_add, dmc_queue_clean, dmc_queue_free, dmc_queue_new, dmc_queue_pull,
-    dmc_queue_register, dmc_queue_remove, dmc_queue_update,
+    dmc_queue_add, dmc_queue_cancel, dmc_queue_clean, dmc_queue_free, dmc_queue_new,
+    dmc_queue_pull, dmc_queue_register, dmc_queue_remove, dmc_queue_update,
 };
 use crate::reading::DmcConfig;
 use std::alloc::{AllocError, Global};
@@ -31,10 +31,14 @@ pub enum Line {
     /// The client, its reservation, weight and limit, and the moment.
     Client(u32, u32, u32, u32, u64),
     Update(u32, u32, u32, u32, u64),
-    /// The client, the token, delta, rho, and the moment.
+    /// The client, the token, delta, rho, and the moment, of a request of cost 1.
     Add(u32, u32, u32, u32, u64),
+    /// The client, the token, delta, rho, the cost, and the moment.
+    AddOfCost(u32, u32, u32, u32, u32, u64),
     Pull(u64),
     Drop(u32),
+    /// The client, the token, and the counting.
+    Cancel(u32, u32, u32),
     Clean(u64),
 }
 
@@ -60,6 +64,7 @@ pub fn no_pull() -> DmcPulled {
         client: 9,
         token: 9,
         phase: 9,
+        cost: 9,
         beyond: false,
         due_low: 9,
         due_high: 9,
@@ -114,12 +119,9 @@ fn run_line(queue: &mut Handle, line: Line, alloc: Global) -> Result<String, All
                 alloc,
             )
         }
-        Line::Add(c, token, delta, rho, at) => {
-            let mut tags = no_tags();
-            match dmc_queue_add(queue, c, token, delta, rho, at, &mut tags, alloc) {
-                0 => tags_text(tags, alloc),
-                code => coded(code, "", alloc),
-            }
+        Line::Add(c, token, delta, rho, at) => add(queue, (c, token, delta, rho, 1, at), alloc),
+        Line::AddOfCost(c, token, delta, rho, cost, at) => {
+            add(queue, (c, token, delta, rho, cost, at), alloc)
         }
         Line::Pull(at) => {
             let mut pulled = no_pull();
@@ -135,6 +137,7 @@ fn run_line(queue: &mut Handle, line: Line, alloc: Global) -> Result<String, All
                 code => coded(code, "", alloc),
             }
         }
+        Line::Cancel(c, token, counting) => cancel(queue, (c, token, counting), alloc),
         Line::Clean(at) => {
             let (mut idled, mut erased) = (9, 9);
             match dmc_queue_clean(queue, at, &mut idled, &mut erased, alloc) {
@@ -142,6 +145,34 @@ fn run_line(queue: &mut Handle, line: Line, alloc: Global) -> Result<String, All
                 code => coded(code, "", alloc),
             }
         }
+    }
+}
+
+/// The tags of an add, or its code: of a client, a token, delta, rho, a cost and a moment.
+fn add(
+    queue: &mut Handle,
+    request: (u32, u32, u32, u32, u32, u64),
+    alloc: Global,
+) -> Result<String, AllocError> {
+    let (client, token, delta, rho, cost, at) = request;
+    let mut tags = no_tags();
+    match dmc_queue_add(queue, client, token, delta, rho, cost, at, &mut tags, alloc) {
+        0 => tags_text(tags, alloc),
+        code => coded(code, "", alloc),
+    }
+}
+
+/// How many requests a cancel takes back, or its code: of a client, a token and a counting.
+fn cancel(
+    queue: &mut Handle,
+    request: (u32, u32, u32),
+    alloc: Global,
+) -> Result<String, AllocError> {
+    let (client, token, counting) = request;
+    let mut removed = 9;
+    match dmc_queue_cancel(queue, client, token, counting, &mut removed, alloc) {
+        0 => format!(in alloc; "dropped {removed}"),
+        code => coded(code, "", alloc),
     }
 }
 
@@ -191,7 +222,13 @@ fn pulled_text(pulled: DmcPulled, alloc: Global) -> Result<String, AllocError> {
     };
     let beyond = if pulled.beyond { " beyond" } else { "" };
     match pulled.kind {
-        0 => format!(in alloc; "grant {} {} {phase}{beyond}", pulled.client, pulled.token),
+        0 if pulled.cost == 1 => {
+            format!(in alloc; "grant {} {} {phase}{beyond}", pulled.client, pulled.token)
+        }
+        0 => format!(in alloc;
+            "grant {} {} {phase}{beyond} cost {}",
+            pulled.client, pulled.token, pulled.cost
+        ),
         1 => {
             let due = ((pulled.due_high as u128) << 64) + pulled.due_low as u128;
             format!(in alloc; "future {due}")

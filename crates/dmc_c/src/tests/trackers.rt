@@ -3,14 +3,18 @@ use crate::handle::Handle;
 use crate::outputs::{DmcStamp, DmcTrack};
 use crate::tests::run::not_memory;
 use crate::tracker::{
-    dmc_tracker_free, dmc_tracker_new, dmc_tracker_respond, dmc_tracker_skip, dmc_tracker_stamp,
-    dmc_tracker_status,
+    dmc_stamp_with_returned, dmc_tracker_free, dmc_tracker_new, dmc_tracker_respond,
+    dmc_tracker_skip, dmc_tracker_stamp, dmc_tracker_status,
 };
 use std::alloc::Global;
 use std::test::Fail;
 
 /// What no stamp carries.
-const NO_STAMP: DmcStamp = DmcStamp { delta: 9, rho: 9 };
+const NO_STAMP: DmcStamp = DmcStamp {
+    delta: 9,
+    rho: 9,
+    cost: 9,
+};
 
 /// What no tracker writes.
 const NO_TRACK: DmcTrack = DmcTrack {
@@ -22,10 +26,16 @@ const NO_TRACK: DmcTrack = DmcTrack {
     reservation: 9,
 };
 
-/// The code of a stamp, and what it carries.
-fn stamp(tracker: &mut Handle, server: u32, alloc: Global) -> (u32, u32, u32) {
+/// The code of a stamp of a cost, and what it carries.
+fn stamp_of_cost(tracker: &mut Handle, server: u32, cost: u32, alloc: Global) -> (u32, DmcStamp) {
     let mut params = NO_STAMP;
-    let code = dmc_tracker_stamp(tracker, server, &mut params, alloc);
+    let code = dmc_tracker_stamp(tracker, server, cost, &mut params, alloc);
+    (code, params)
+}
+
+/// The code of a stamp of cost 1, and its counts.
+fn stamp(tracker: &mut Handle, server: u32, alloc: Global) -> (u32, u32, u32) {
+    let (code, params) = stamp_of_cost(tracker, server, 1, alloc);
     (code, params.delta, params.rho)
 }
 
@@ -52,9 +62,9 @@ fn three_stamps(
     let mut tracker = Handle::none();
     let made = dmc_tracker_new(&mut tracker, 2, 10, counting, alloc);
     let first = stamp(&mut tracker, 0, alloc);
-    let one = dmc_tracker_respond(&mut tracker, 0, 0, alloc);
+    let one = dmc_tracker_respond(&mut tracker, 0, 0, 1, alloc);
     let second = stamp(&mut tracker, 1, alloc);
-    let two = dmc_tracker_respond(&mut tracker, 1, 1, alloc);
+    let two = dmc_tracker_respond(&mut tracker, 1, 1, 1, alloc);
     let third = stamp(&mut tracker, 0, alloc);
     let written = [
         status(&mut tracker, 0, alloc),
@@ -106,10 +116,10 @@ fn refusals(alloc: Global) -> [u32; 9] {
     let again = dmc_tracker_new(&mut tracker, 0, 0, 9, alloc);
     let elsewhere = stamp(&mut tracker, 1, alloc).0;
     let unknown = status(&mut tracker, 1, alloc).0;
-    let phase = dmc_tracker_respond(&mut tracker, 1, 2, alloc);
-    let server = dmc_tracker_respond(&mut tracker, 1, 1, alloc);
-    let counted = dmc_tracker_respond(&mut tracker, 0, 1, alloc);
-    let full = dmc_tracker_respond(&mut tracker, 0, 1, alloc);
+    let phase = dmc_tracker_respond(&mut tracker, 1, 2, 1, alloc);
+    let server = dmc_tracker_respond(&mut tracker, 1, 1, 1, alloc);
+    let counted = dmc_tracker_respond(&mut tracker, 0, 1, 1, alloc);
+    let full = dmc_tracker_respond(&mut tracker, 0, 1, 1, alloc);
     dmc_tracker_free(&mut tracker, alloc);
     let freed = status(&mut tracker, 0, alloc).0;
     tracker.end(alloc);
@@ -128,7 +138,7 @@ fn tracker_limits(rt: HostRuntime) -> Result<(), Fail> {
         dmc_tracker_new(&mut tracker, 65, 1, 0, rt.alloc()),
         dmc_tracker_new(&mut tracker, 1, 0, 0, rt.alloc()),
         dmc_tracker_new(&mut tracker, 65, 1, 2, rt.alloc()),
-        dmc_tracker_respond(&mut tracker, 0, 2, rt.alloc()),
+        dmc_tracker_respond(&mut tracker, 0, 2, 1, rt.alloc()),
         stamp(&mut tracker, 0, rt.alloc()).0,
     ];
     tracker.end(rt.alloc());
@@ -144,8 +154,8 @@ fn skip_between(
 ) -> ([u32; 4], [(u32, [u64; 6]); 2], [(u32, u32, u32); 2]) {
     let mut tracker = Handle::none();
     let made = dmc_tracker_new(&mut tracker, 2, 1 << 62, counting, alloc);
-    let one = dmc_tracker_respond(&mut tracker, 0, 0, alloc);
-    let two = dmc_tracker_respond(&mut tracker, 0, 1, alloc);
+    let one = dmc_tracker_respond(&mut tracker, 0, 0, 1, alloc);
+    let two = dmc_tracker_respond(&mut tracker, 0, 1, 1, alloc);
     let skipped = dmc_tracker_skip(&mut tracker, 1, alloc);
     let written = [
         status(&mut tracker, 0, alloc),
@@ -184,4 +194,89 @@ fn skip_refusals(rt: HostRuntime) -> Result<(), Fail> {
     not_memory(made)?;
     assert_eq!(rt; [none, past, made, elsewhere, empty], [2, 15, 0, 30, 0]);
     Ok(())
+}
+
+/// Three stamps and two responses of these costs between them, at a tracker of two servers: the codes, and delta, rho and cost of
+/// each stamp.
+fn stamps_of_costs(counting: u32, costs: [u32; 3], alloc: Global) -> ([u32; 6], [[u32; 3]; 3]) {
+    let mut tracker = Handle::none();
+    let made = dmc_tracker_new(&mut tracker, 2, 100, counting, alloc);
+    let first = stamp_of_cost(&mut tracker, 0, costs[0], alloc);
+    let one = dmc_tracker_respond(&mut tracker, 0, 0, 8, alloc);
+    let second = stamp_of_cost(&mut tracker, 1, costs[1], alloc);
+    let two = dmc_tracker_respond(&mut tracker, 1, 1, if counting == 0 { 2 } else { 3 }, alloc);
+    let third = stamp_of_cost(&mut tracker, 0, costs[2], alloc);
+    tracker.end(alloc);
+    let codes = [made, first.0, one, second.0, two, third.0];
+    let stamps = [first.1, second.1, third.1].map(|stamp| [stamp.delta, stamp.rho, stamp.cost]);
+    (codes, stamps)
+}
+
+#[test]
+fn costs_are_counted(rt: HostRuntime) -> Result<(), Fail> {
+    let (codes, stamps) = stamps_of_costs(0, [8, 1, 1], rt.alloc());
+    not_memory(codes[0])?;
+    assert_eq!(rt; codes, [0; 6]);
+    assert_eq!(rt; stamps, [[0, 0, 8], [8, 8, 1], [10, 8, 1]]);
+    let (codes, stamps) = stamps_of_costs(1, [8, 3, 1], rt.alloc());
+    assert_eq!(rt; (not_memory(codes[0])?, codes[5]), (0, 0));
+    assert_eq!(rt; stamps, [[8, 8, 8], [11, 11, 3], [4, 1, 1]]);
+    Ok(())
+}
+
+/// The codes of a cost of 0: after the handle and the phase, before the server. And a response that would pass `most`.
+#[test]
+fn refused_costs(rt: HostRuntime) -> Result<(), Fail> {
+    let alloc = rt.alloc();
+    let mut tracker = Handle::none();
+    let none = stamp_of_cost(&mut tracker, 0, 0, alloc).0;
+    let made = dmc_tracker_new(&mut tracker, 1, 5, 0, alloc);
+    let codes = [
+        none,
+        made,
+        stamp_of_cost(&mut tracker, 1, 0, alloc).0,
+        dmc_tracker_respond(&mut tracker, 1, 2, 0, alloc),
+        dmc_tracker_respond(&mut tracker, 1, 1, 0, alloc),
+        dmc_tracker_respond(&mut tracker, 0, 1, 6, alloc),
+        dmc_tracker_respond(&mut tracker, 0, 1, 5, alloc),
+        dmc_tracker_respond(&mut tracker, 0, 1, 1, alloc),
+    ];
+    tracker.end(alloc);
+    not_memory(made)?;
+    assert_eq!(rt; codes, [2, 0, 16, 14, 16, 31, 0, 31]);
+    Ok(())
+}
+
+/// The code of a stamp with another one's counts besides, and what it carries then.
+fn with_returned(counts: [u32; 3], returned: [u32; 3], counting: u32) -> (u32, [u32; 3]) {
+    let stamp_of = |counts: [u32; 3]| DmcStamp {
+        delta: counts[0],
+        rho: counts[1],
+        cost: counts[2],
+    };
+    let mut stamp = stamp_of(counts);
+    let code = dmc_stamp_with_returned(&mut stamp, &stamp_of(returned), counting);
+    (code, [stamp.delta, stamp.rho, stamp.cost])
+}
+
+#[test]
+fn returned_stamps(rt: HostRuntime) {
+    assert_eq!(rt; with_returned([3, 1, 2], [7, 5, 4], 0), (0, [10, 6, 2]));
+    assert_eq!(rt; with_returned([3, 1, 2], [7, 5, 4], 1), (0, [6, 2, 2]));
+    assert_eq!(rt;
+        with_returned([u32::MAX - 6, 0, 1], [7, 0, 1], 0),
+        (31, [u32::MAX - 6, 0, 1])
+    );
+    assert_eq!(rt;
+        with_returned([u32::MAX - 6, 0, 1], [7, 0, 1], 1),
+        (0, [u32::MAX, 0, 1])
+    );
+    let refused = [
+        with_returned([0, 1, 0], [0, 1, 0], 2).0,
+        with_returned([0, 1, 0], [0, 1, 0], 0).0,
+        with_returned([1, 1, 0], [0, 1, 0], 0).0,
+        with_returned([1, 1, 1], [0, 1, 0], 0).0,
+        with_returned([1, 1, 1], [0, 0, 0], 0).0,
+    ];
+    assert_eq!(rt; refused, [13, 11, 16, 11, 16]);
 }

@@ -21,6 +21,7 @@ pub const DMC_BAD_RATE: u32 = 12;
 pub const DMC_BAD_CONFIG: u32 = 13;
 pub const DMC_BAD_PHASE: u32 = 14;
 pub const DMC_LIMIT: u32 = 15;
+pub const DMC_BAD_COST: u32 = 16;
 pub const DMC_KNOWN: u32 = 20;
 pub const DMC_UNKNOWN: u32 = 21;
 pub const DMC_INEXACT_RESERVATION: u32 = 22;
@@ -33,6 +34,7 @@ pub const DMC_BUSY: u32 = 28;
 pub const DMC_OVER_LIMIT: u32 = 29;
 pub const DMC_NO_SERVER: u32 = 30;
 pub const DMC_TRACK_FULL: u32 = 31;
+pub const DMC_NOT_SENT: u32 = 32;
 
 pub const DMC_TICK: u32 = 0;
 pub const DMC_RATIO: u32 = 1;
@@ -66,12 +68,24 @@ pub struct dmc_tracker {
     pub held: u64,
 }
 
+#[repr(C)]
+#[derive(Debug)]
+pub struct dmc_shards {
+    pub at: *mut c_void,
+    pub held: u64,
+}
+
 pub const DMC_QUEUE_NONE: dmc_queue = dmc_queue {
     at: core::ptr::null_mut(),
     held: 0,
 };
 
 pub const DMC_TRACKER_NONE: dmc_tracker = dmc_tracker {
+    at: core::ptr::null_mut(),
+    held: 0,
+};
+
+pub const DMC_SHARDS_NONE: dmc_shards = dmc_shards {
     at: core::ptr::null_mut(),
     held: 0,
 };
@@ -124,6 +138,7 @@ pub struct dmc_pulled {
     pub client: u32,
     pub token: u32,
     pub phase: u32,
+    pub cost: u32,
     pub beyond: bool,
     pub due_low: u64,
     pub due_high: u64,
@@ -134,6 +149,7 @@ pub struct dmc_pulled {
 pub struct dmc_stamp {
     pub delta: u32,
     pub rho: u32,
+    pub cost: u32,
 }
 
 #[repr(C)]
@@ -174,11 +190,19 @@ extern "C" {
         token: u32,
         delta: u32,
         rho: u32,
+        cost: u32,
         at: u64,
         tags: *mut dmc_tags,
     ) -> u32;
     pub fn dmc_queue_pull(queue: *mut dmc_queue, at: u64, pulled: *mut dmc_pulled) -> u32;
     pub fn dmc_queue_remove(queue: *mut dmc_queue, client: u32, removed: *mut u32) -> u32;
+    pub fn dmc_queue_cancel(
+        queue: *mut dmc_queue,
+        client: u32,
+        token: u32,
+        counting: u32,
+        removed: *mut u32,
+    ) -> u32;
     pub fn dmc_queue_clean(
         queue: *mut dmc_queue,
         at: u64,
@@ -194,11 +218,37 @@ extern "C" {
         counting: u32,
     ) -> u32;
     pub fn dmc_tracker_free(tracker: *mut dmc_tracker);
-    pub fn dmc_tracker_stamp(tracker: *mut dmc_tracker, server: u32, stamp: *mut dmc_stamp) -> u32;
+    pub fn dmc_tracker_stamp(
+        tracker: *mut dmc_tracker,
+        server: u32,
+        cost: u32,
+        stamp: *mut dmc_stamp,
+    ) -> u32;
+    pub fn dmc_stamp_with_returned(
+        stamp: *mut dmc_stamp,
+        returned: *const dmc_stamp,
+        counting: u32,
+    ) -> u32;
     pub fn dmc_tracker_skip(tracker: *mut dmc_tracker, server: u32) -> u32;
-    pub fn dmc_tracker_respond(tracker: *mut dmc_tracker, server: u32, phase: u32) -> u32;
+    pub fn dmc_tracker_respond(
+        tracker: *mut dmc_tracker,
+        server: u32,
+        phase: u32,
+        cost: u32,
+    ) -> u32;
     pub fn dmc_tracker_status(tracker: *mut dmc_tracker, server: u32, track: *mut dmc_track)
         -> u32;
+
+    pub fn dmc_shards_new(shards: *mut dmc_shards, count: u32, most: u64) -> u32;
+    pub fn dmc_shards_free(shards: *mut dmc_shards);
+    pub fn dmc_shards_arrive(shards: *mut dmc_shards, shard: u32, stamp: *mut dmc_stamp) -> u32;
+    pub fn dmc_shards_give_back(
+        shards: *mut dmc_shards,
+        shard: u32,
+        stamp: *const dmc_stamp,
+    ) -> u32;
+    pub fn dmc_shards_skip(shards: *mut dmc_shards, shard: u32) -> u32;
+    pub fn dmc_shards_status(shards: *mut dmc_shards, shard: u32, track: *mut dmc_track) -> u32;
 
     pub fn dmc_rate_at_most(hz: u64, rate: u32, found: *mut u32) -> u32;
     pub fn dmc_rate_at_least(hz: u64, rate: u32, found: *mut u32) -> u32;

@@ -117,7 +117,7 @@ fn numbers() {
         .map(|(name, number)| (name.to_string(), number.replace('_', "")))
         .collect();
     assert_eq!(found, wanted);
-    assert_eq!(found.len(), 39);
+    assert_eq!(found.len(), 41);
 }
 
 #[test]
@@ -132,8 +132,8 @@ fn structs() {
         .map(|(name, body)| (name.trim().to_string(), rust_pairs(body)))
         .collect();
     assert_eq!(found, wanted);
-    assert_eq!(found.len(), 8);
-    assert_eq!(declared.matches("#[repr(C)]").count(), 8);
+    assert_eq!(found.len(), 9);
+    assert_eq!(declared.matches("#[repr(C)]").count(), 9);
 }
 
 #[test]
@@ -161,7 +161,7 @@ fn calls() {
         })
         .collect();
     assert_eq!(found, wanted);
-    assert_eq!(found.len(), 21);
+    assert_eq!(found.len(), 29);
 }
 
 #[test]

@@ -62,6 +62,12 @@ errors! {
         Past = "the moment is past 2^62 ticks";
     }
 
+    /// Why [`Cost::new`](crate::Cost::new) refuses a number.
+    CostError {
+        /// The cost is 0.
+        Zero = "the cost is 0";
+    }
+
     /// Why [`ReqParams::new`](crate::ReqParams::new) refuses two counts.
     ParamsError {
         /// The rho is past its delta.
@@ -151,9 +157,16 @@ errors! {
         Unknown = "the client is not registered", DMC_UNKNOWN;
     }
 
-    /// Why [`Tracker::new`](crate::Tracker::new) makes no tracker, in the order of the tests.
+    /// Why [`Queue::cancel`](crate::Queue::cancel) is refused.
+    CancelError {
+        /// The client is not registered.
+        Unknown = "the client is not registered", DMC_UNKNOWN;
+    }
+
+    /// Why [`Tracker::new`](crate::Tracker::new) or
+    /// [`ShardTracker::new`](crate::ShardTracker::new) makes no tracker, in the order of the tests.
     TrackerError {
-        /// The servers are not 1 to 64, or `most` is not 1 to 2^62.
+        /// The servers or shards are not 1 to 64, or `most` is not 1 to 2^62.
         Limit = "the servers or the most completions are out of their limits", DMC_LIMIT;
         /// An allocation failed.
         Memory = "out of memory", DMC_MEMORY;
@@ -169,7 +182,8 @@ errors! {
         TrackFull = "a count would pass the most of the tracker, or a stamp's 2^32-1", DMC_TRACK_FULL;
     }
 
-    /// Why [`Tracker::skip`](crate::Tracker::skip) skips nothing.
+    /// Why [`Tracker::skip`](crate::Tracker::skip) or
+    /// [`ShardTracker::skip`](crate::ShardTracker::skip) skips nothing.
     SkipError {
         /// The tracker has no such server.
         NoServer = "the tracker has no such server", DMC_NO_SERVER;
@@ -184,7 +198,26 @@ errors! {
         TrackFull = "a count would pass the most of the tracker", DMC_TRACK_FULL;
     }
 
-    /// Why [`Tracker::status`](crate::Tracker::status) knows nothing.
+    /// Why [`ShardTracker::arrive`](crate::ShardTracker::arrive) makes no stamp, in the order of the
+    /// tests.
+    ArriveError {
+        /// The tracker has no such shard.
+        NoServer = "the tracker has no such shard", DMC_NO_SERVER;
+        /// What came would pass the tracker's `most`, or the stamped delta 2^32-1.
+        TrackFull = "a count would pass the most of the tracker, or a stamp's 2^32-1", DMC_TRACK_FULL;
+    }
+
+    /// Why [`ShardTracker::give_back`](crate::ShardTracker::give_back) gives nothing back, in the
+    /// order of the tests.
+    GiveBackError {
+        /// The tracker has no such shard.
+        NoServer = "the tracker has no such shard", DMC_NO_SERVER;
+        /// It is more than was sent to the shard, and not given back, in one of the counts.
+        NotSent = "more is given back than was sent to the shard", DMC_NOT_SENT;
+    }
+
+    /// Why [`Tracker::status`](crate::Tracker::status) or
+    /// [`ShardTracker::status`](crate::ShardTracker::status) knows nothing.
     StatusError {
         /// The tracker has no such server.
         NoServer = "the tracker has no such server", DMC_NO_SERVER;

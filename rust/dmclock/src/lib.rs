@@ -3,7 +3,7 @@
 //! dmClock decides whose request a storage server serves next: each client has a weight (its
 //! share), and may have a reservation (a least rate) and a limit (a greatest rate). A server has a
 //! [`Queue`], a client a [`Tracker`], and nothing else is shared: a request carries the two counts
-//! of its stamp, and the response the phase of its grant.
+//! of its stamp and its cost, and the response the phase of its grant and the cost.
 //!
 //! Queue and tracker are proved, in Rattle, to keep to the rules of dmClock. This crate calls them
 //! through the C library `libdmclock`, and is not proved itself: it is tested beside a slow queue
@@ -23,10 +23,10 @@
 //! let now = Moment::from_nanos(FINE_HZ, nanos).unwrap(); // of your monotonic clock
 //! queue.register(client, info, now)?;
 //! let mut tracker = Tracker::new(1, 1_000_000, Counting::All)?;
-//! queue.add_request(client, token, tracker.get_req_params(server)?, now)?;
-//! if let Pulled::Returning { client, token, phase, .. } = queue.pull_request(now)? {
+//! queue.add_request(client, token, tracker.get_req_params(server, Cost::ONE)?, now)?;
+//! if let Pulled::Returning { client, token, phase, cost, .. } = queue.pull_request(now)? {
 //!     // serve it; then the response goes to the client's tracker
-//!     tracker.track_resp(server, phase)?;
+//!     tracker.track_resp(server, phase, cost)?;
 //! #   assert_eq!((client, token, phase), (ClientId(1), Token(1), PhaseType::Reservation));
 //! }
 //! # Ok(())
@@ -39,19 +39,21 @@
 mod calls;
 mod error;
 mod queue;
+mod shards;
 mod tag;
 mod tracker;
 mod values;
 
 pub use error::{
-    AddError, ConfigError, MomentError, ParamsError, PullError, QueueError, RateError,
-    RegisterError, RemoveError, RespondError, SkipError, StampError, StatusError, TrackerError,
-    UpdateError,
+    AddError, ArriveError, CancelError, ConfigError, CostError, GiveBackError, MomentError,
+    ParamsError, PullError, QueueError, RateError, RegisterError, RemoveError, RespondError,
+    SkipError, StampError, StatusError, TrackerError, UpdateError,
 };
 pub use queue::{Cleaned, Pulled, Queue};
+pub use shards::ShardTracker;
 pub use tag::{Tag, Tags};
 pub use tracker::{TrackStatus, Tracker};
 pub use values::{
-    nanos_until, rate_at_least, rate_at_most, AtLimit, ClientId, ClientInfo, Counting, Moment,
-    PhaseType, QueueConfig, ReqParams, ServerId, Shares, TagKind, Token, FINE_HZ,
+    nanos_until, rate_at_least, rate_at_most, AtLimit, ClientId, ClientInfo, Cost, Counting,
+    Moment, PhaseType, QueueConfig, ReqParams, ServerId, Shares, TagKind, Token, FINE_HZ,
 };

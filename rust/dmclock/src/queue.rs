@@ -2,11 +2,12 @@
 
 use crate::calls::written;
 use crate::error::{
-    unexpected, AddError, PullError, QueueError, Refusal, RegisterError, RemoveError, UpdateError,
+    unexpected, AddError, CancelError, PullError, QueueError, Refusal, RegisterError, RemoveError,
+    UpdateError,
 };
 use crate::tag::Tags;
 use crate::values::{
-    ClientId, ClientInfo, Moment, PhaseType, QueueConfig, ReqParams, TagKind, Token,
+    ClientId, ClientInfo, Cost, Counting, Moment, PhaseType, QueueConfig, ReqParams, TagKind, Token,
 };
 use dmclock_sys as sys;
 use std::cell::UnsafeCell;
@@ -23,6 +24,8 @@ pub enum Pulled {
         token: Token,
         /// Why it is granted, which the client's tracker is to count.
         phase: PhaseType,
+        /// What it costs, which the client's tracker is to count.
+        cost: Cost,
         /// Whether it is past its client's limit ([`AtLimit::Allow`](crate::AtLimit::Allow)).
         beyond: bool,
     },
@@ -44,6 +47,7 @@ impl Pulled {
                     sys::DMC_RESERVATION => PhaseType::Reservation,
                     _ => PhaseType::Priority,
                 },
+                cost: Cost::of(pulled.cost),
                 beyond: pulled.beyond,
             },
             sys::DMC_FUTURE => {
@@ -158,7 +162,7 @@ impl Queue {
         })
     }
 
-    /// Queues a request with the counts of its stamp, and returns its tags.
+    /// Queues a request with the counts of its stamp and its cost, and returns its tags.
     #[inline]
     pub fn add_request(
         &mut self,
@@ -167,12 +171,12 @@ impl Queue {
         params: ReqParams,
         at: Moment,
     ) -> Result<Tags, AddError> {
-        let (delta, rho) = (params.delta(), params.rho());
+        let (delta, rho, cost) = (params.delta(), params.rho(), params.cost().units());
         let queue = self.queue.get_mut();
         // SAFETY: the pointers are a reference and that of `written`.
         let added = unsafe {
             written(|tags| {
-                sys::dmc_queue_add(queue, client.0, token.0, delta, rho, at.ticks(), tags)
+                sys::dmc_queue_add(queue, client.0, token.0, delta, rho, cost, at.ticks(), tags)
             })
         };
         added.map(Tags::of)
@@ -192,6 +196,25 @@ impl Queue {
         let queue = self.queue.get_mut();
         // SAFETY: the pointers are a reference and that of `written`.
         unsafe { written(|removed| sys::dmc_queue_remove(queue, client.0, removed)) }
+    }
+
+    /// Takes back a client's queued requests with a token, wherever they are in the queue, when they
+    /// are given up, and returns how many: none if they were granted before.
+    ///
+    /// `counting` is that of the tracker that stamped them. In [`Counting::Others`] a stamp counts
+    /// its own request, so what they were charged is given back to the client's later requests:
+    /// after it pull again, since one may be due earlier. In [`Counting::All`] they were not charged
+    /// yet. At a single server, where each request counts its own cost, it is `Counting::Others`.
+    pub fn cancel(
+        &mut self,
+        client: ClientId,
+        token: Token,
+        counting: Counting,
+    ) -> Result<u32, CancelError> {
+        let form = counting.number();
+        let queue = self.queue.get_mut();
+        // SAFETY: the pointers are a reference and that of `written`.
+        unsafe { written(|removed| sys::dmc_queue_cancel(queue, client.0, token.0, form, removed)) }
     }
 
     /// Marks clients idle and erases old ones.

@@ -1,6 +1,6 @@
-//! Checked values: ids, moments, rates, counts, settings.
+//! Checked values: ids, moments, rates, costs, counts, settings.
 
-use crate::error::{ConfigError, MomentError, ParamsError, RateError};
+use crate::error::{unexpected, ConfigError, CostError, MomentError, ParamsError, RateError};
 use dmclock_sys as sys;
 
 /// A client of a queue, by a number of the caller's choice.
@@ -89,8 +89,8 @@ impl Moment {
     }
 }
 
-/// A client's rates, in requests a second: at least the reservation, at most the limit, and a share
-/// of the rest by its weight.
+/// A client's rates, in units of [`Cost`] a second, so in requests a second if each costs 1: at
+/// least the reservation, at most the limit, and a share of the rest by its weight.
 #[derive(Clone, Copy, Debug, PartialEq, Eq, Hash)]
 pub struct ClientInfo {
     reservation: Option<u32>,
@@ -131,11 +131,43 @@ impl ClientInfo {
     }
 }
 
-/// The two counts of a stamp, which go with a request to a server.
+/// How much of its client's rates a request takes: 1 to 2^32-1, in units of the caller's choice,
+/// such as requests, blocks of 4 KiB, or microseconds of a device. Rates and weights are then in
+/// these units a second.
+#[derive(Clone, Copy, Debug, PartialEq, Eq, PartialOrd, Ord, Hash)]
+pub struct Cost(u32);
+
+impl Cost {
+    /// The cost of a request if only requests are counted.
+    pub const ONE: Cost = Cost(1);
+
+    /// A cost of this many units, at least one.
+    pub const fn new(units: u32) -> Result<Cost, CostError> {
+        if units == 0 {
+            return Err(CostError::Zero);
+        }
+        Ok(Cost(units))
+    }
+
+    /// What the library wrote, which is not 0.
+    #[inline]
+    pub(crate) fn of(units: u32) -> Cost {
+        Cost(units)
+    }
+
+    /// How many units it is.
+    pub const fn units(self) -> u32 {
+        self.0
+    }
+}
+
+/// What goes with a request to a server: the two counts of its stamp, in units of [`Cost`], and its
+/// own cost.
 #[derive(Clone, Copy, Debug, PartialEq, Eq, Hash)]
 pub struct ReqParams {
     delta: u32,
     rho: u32,
+    cost: Cost,
 }
 
 impl ReqParams {
@@ -145,15 +177,48 @@ impl ReqParams {
         ReqParams {
             delta: stamp.delta,
             rho: stamp.rho,
+            cost: Cost::of(stamp.cost),
         }
     }
 
-    /// The counts that came with a request; rho is at most delta.
+    /// What the library is given.
+    pub(crate) fn stamp(self) -> sys::dmc_stamp {
+        sys::dmc_stamp {
+            delta: self.delta,
+            rho: self.rho,
+            cost: self.cost.units(),
+        }
+    }
+
+    /// The counts that came with a request of cost 1; rho is at most delta.
     pub const fn new(delta: u32, rho: u32) -> Result<ReqParams, ParamsError> {
         if rho > delta {
             return Err(ParamsError::Rho);
         }
-        Ok(ReqParams { delta, rho })
+        Ok(ReqParams {
+            delta,
+            rho,
+            cost: Cost::ONE,
+        })
+    }
+
+    /// The same counts for a request of this cost.
+    pub const fn with_cost(self, cost: Cost) -> ReqParams {
+        ReqParams { cost, ..self }
+    }
+
+    /// The same request, with the counts of another stamp to the same server besides, which no
+    /// server took, since its request was refused or lost and is given up. The client's completions
+    /// stay counted, and that request costs it nothing; in [`Counting::Others`] its own cost is left
+    /// out, since it was not served. `None` if delta would pass 2^32-1.
+    pub fn with_returned(self, returned: ReqParams, counting: Counting) -> Option<ReqParams> {
+        let (mut stamp, returned, form) = (self.stamp(), returned.stamp(), counting.number());
+        // SAFETY: the pointers are references.
+        match unsafe { sys::dmc_stamp_with_returned(&mut stamp, &returned, form) } {
+            sys::DMC_OK => Some(ReqParams::of(stamp)),
+            sys::DMC_TRACK_FULL => None,
+            code => unexpected(code),
+        }
     }
 
     /// Completions since the last stamp to the same server.
@@ -164,6 +229,11 @@ impl ReqParams {
     /// Those of them by reservation.
     pub const fn rho(self) -> u32 {
         self.rho
+    }
+
+    /// The cost of the request itself.
+    pub const fn cost(self) -> Cost {
+        self.cost
     }
 }
 
@@ -210,6 +280,16 @@ pub enum Counting {
     All,
     /// The request itself, and those at the other servers.
     Others,
+}
+
+impl Counting {
+    /// Its number in the header.
+    pub(crate) fn number(self) -> u32 {
+        match self {
+            Counting::All => sys::DMC_ALL,
+            Counting::Others => sys::DMC_OTHERS,
+        }
+    }
 }
 
 /// Why a request is granted.

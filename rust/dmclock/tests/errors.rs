@@ -75,6 +75,10 @@ fn values() {
     assert_eq!(Moment::new((1 << 62) + 1), Err(MomentError::Past));
     assert_eq!(Moment::new(1 << 62), Ok(Moment::MAX));
     assert_eq!(ReqParams::new(1, 2), Err(ParamsError::Rho));
+    assert_eq!(Cost::new(0), Err(CostError::Zero));
+    assert_eq!(Cost::new(1), Ok(Cost::ONE));
+    assert_eq!(Cost::new(u32::MAX).map(Cost::units), Ok(u32::MAX));
+    assert_eq!(params(2, 1).cost(), Cost::ONE);
     assert_eq!(ClientInfo::new(Some(0), 1, None), Err(RateError::Zero));
     assert_eq!(ClientInfo::new(None, 0, None), Err(RateError::Zero));
     assert_eq!(ClientInfo::new(None, 1, Some(0)), Err(RateError::Zero));
@@ -212,6 +216,19 @@ fn remove_by_client() {
 }
 
 #[test]
+fn cancel() {
+    let mut queue = queue(TagKind::Tick);
+    queue
+        .add_request(CLIENT, Token(1), params(1, 0), ZERO)
+        .unwrap();
+    let mut cancel = |client, token| queue.cancel(client, Token(token), Counting::Others);
+    assert_eq!(cancel(NOBODY, 1), Err(CancelError::Unknown));
+    assert_eq!(cancel(CLIENT, 2), Ok(0));
+    assert_eq!(cancel(CLIENT, 1), Ok(1));
+    assert_eq!(queue.request_count(), 0);
+}
+
+#[test]
 fn no_tracker() {
     let made = |servers, most| Tracker::new(servers, most, Counting::All).err();
     assert_eq!(made(0, 1), Some(TrackerError::Limit));
@@ -227,10 +244,12 @@ fn no_tracker() {
 fn tracker() {
     let mut tracker = Tracker::new(1, 1, Counting::Others).unwrap();
     let (first, none) = (ServerId(0), ServerId(1));
-    assert_eq!(tracker.get_req_params(none), Err(StampError::NoServer));
-    assert_eq!(tracker.get_req_params(first), Ok(params(1, 1)));
-    assert_eq!(tracker.get_req_params(first), Err(StampError::TrackFull));
-    let respond = |tracker: &mut Tracker, server| tracker.track_resp(server, PhaseType::Priority);
+    let stamp = |tracker: &mut Tracker, server| tracker.get_req_params(server, Cost::ONE);
+    assert_eq!(stamp(&mut tracker, none), Err(StampError::NoServer));
+    assert_eq!(stamp(&mut tracker, first), Ok(params(1, 1)));
+    assert_eq!(stamp(&mut tracker, first), Err(StampError::TrackFull));
+    let respond =
+        |tracker: &mut Tracker, server| tracker.track_resp(server, PhaseType::Priority, Cost::ONE);
     assert_eq!(respond(&mut tracker, none), Err(RespondError::NoServer));
     assert_eq!(respond(&mut tracker, first), Ok(()));
     assert_eq!(respond(&mut tracker, first), Err(RespondError::TrackFull));
@@ -238,6 +257,50 @@ fn tracker() {
     assert_eq!(tracker.skip(first), Ok(()));
     assert_eq!(tracker.status(none), Err(StatusError::NoServer));
     assert_eq!(tracker.status(first).unwrap().completions, 1);
+}
+
+#[test]
+fn no_shard_tracker() {
+    let made = |shards, most| ShardTracker::new(shards, most).err();
+    assert_eq!(made(0, 1), Some(TrackerError::Limit));
+    assert_eq!(made(65, 1), Some(TrackerError::Limit));
+    assert_eq!(made(1, 0), Some(TrackerError::Limit));
+    assert_eq!(made(1, (1 << 62) + 1), Some(TrackerError::Limit));
+    assert_eq!(made(64, 1 << 62), None);
+    assert_eq!(refusing(|| made(1, 1)), Some(TrackerError::Memory));
+}
+
+#[test]
+fn shard_tracker() {
+    let mut shards = ShardTracker::new(1, 5).unwrap();
+    let (first, none) = (ServerId(0), ServerId(1));
+    assert_eq!(
+        shards.arrive(none, params(1, 1)),
+        Err(ArriveError::NoServer)
+    );
+    assert_eq!(shards.arrive(first, params(4, 1)), Ok(params(4, 1)));
+    assert_eq!(
+        shards.arrive(first, params(2, 0)),
+        Err(ArriveError::TrackFull)
+    );
+    assert_eq!(
+        shards.give_back(none, params(4, 1)),
+        Err(GiveBackError::NoServer)
+    );
+    assert_eq!(
+        shards.give_back(first, params(4, 2)),
+        Err(GiveBackError::NotSent)
+    );
+    assert_eq!(shards.give_back(first, params(4, 1)), Ok(()));
+    assert_eq!(
+        shards.give_back(first, params(4, 1)),
+        Err(GiveBackError::NotSent)
+    );
+    assert_eq!(shards.status(none), Err(StatusError::NoServer));
+    assert_eq!(shards.status(first).unwrap().pending_delta, 4);
+    assert_eq!(shards.skip(none), Err(SkipError::NoServer));
+    assert_eq!(shards.skip(first), Ok(()));
+    assert_eq!(shards.status(first).unwrap().pending_delta, 0);
 }
 
 #[test]

@@ -4,9 +4,9 @@
 mod slow;
 
 use dmclock::{
-    rate_at_most, AddError, AtLimit, ClientId, ClientInfo, Moment, PhaseType, PullError, Pulled,
-    Queue, QueueConfig, RegisterError, RemoveError, ReqParams, Shares, Tag, TagKind, Tags, Token,
-    UpdateError, FINE_HZ,
+    rate_at_most, AddError, AtLimit, CancelError, ClientId, ClientInfo, Cost, Counting, Moment,
+    PhaseType, PullError, Pulled, Queue, QueueConfig, RegisterError, RemoveError, ReqParams,
+    Shares, Tag, TagKind, Tags, Token, UpdateError, FINE_HZ,
 };
 use slow::{Fraction, Slow, SlowTags};
 use std::collections::BTreeMap;
@@ -116,6 +116,11 @@ impl Run {
         ClientId(self.random.pick(&[0, 1, 2, 3, 4, 5, 1000, GREATEST]))
     }
 
+    /// One of a few, so that a client's requests have some in common.
+    fn token(&mut self) -> Token {
+        Token(self.random.pick(&[0, 1, 2, 3, 4, 5, 6, GREATEST]))
+    }
+
     fn params(&mut self) -> ReqParams {
         let delta = match self.random.below(100) {
             0 => GREATEST,
@@ -127,7 +132,13 @@ impl Run {
             0 => delta,
             _ => self.random.below(u64::from(delta) + 1) as u32,
         };
-        ReqParams::new(delta, rho).unwrap()
+        let units = match self.random.below(20) {
+            0 => 1 + self.random.below(u64::from(GREATEST)) as u32,
+            1..=9 => 1 + self.random.below(9) as u32,
+            _ => 1,
+        };
+        let cost = Cost::new(units).unwrap();
+        ReqParams::new(delta, rho).unwrap().with_cost(cost)
     }
 
     /// The next moment: on, back, or at an end.
@@ -165,16 +176,23 @@ impl Run {
                 self.saw(update_name(reply));
             }
             20..=59 => {
-                let (token, params) = (Token(self.random.word()), self.params());
+                let (token, params) = (self.token(), self.params());
                 let reply = fast.add_request(client, token, params, at);
                 let wanted = slow.add_request(client, token, params, at);
                 assert_eq!(reply.map(slow_tags), wanted);
                 self.saw(add_name(reply));
             }
-            60..=92 => {
+            60..=88 => {
                 let reply = fast.pull_request(at);
                 assert_eq!(reply, slow.pull_request(at));
                 self.saw(pull_name(reply));
+            }
+            89..=92 => {
+                let token = self.token();
+                let form = self.random.pick(&[Counting::All, Counting::Others]);
+                let reply = fast.cancel(client, token, form);
+                assert_eq!(reply, slow.cancel(client, token, form));
+                self.saw(cancel_name(reply, form));
             }
             93..=94 => {
                 let reply = fast.remove_by_client(client);
@@ -270,6 +288,16 @@ fn remove_name(reply: Result<u32, RemoveError>) -> &'static str {
     }
 }
 
+fn cancel_name(reply: Result<u32, CancelError>, form: Counting) -> &'static str {
+    match (reply, form) {
+        (Ok(0), _) => "none cancelled",
+        (Ok(1), Counting::All) => "one cancelled in the form All",
+        (Ok(1), Counting::Others) => "one cancelled in the form Others",
+        (Ok(_), _) => "several cancelled",
+        (Err(_), _) => "cancel unknown",
+    }
+}
+
 /// 250 lists of 400 commands, and how often each reply came.
 fn compare(kind: TagKind) -> BTreeMap<&'static str, u32> {
     let mut run = Run::new(2010, kind);
@@ -293,16 +321,21 @@ const REPLIES: &[&str] = &[
     "busy",
     "by reservation",
     "by weight",
+    "cancel unknown",
     "erased",
     "future",
     "future past all moments",
     "idled",
     "known",
+    "none cancelled",
     "none removed",
     "nothing",
+    "one cancelled in the form All",
+    "one cancelled in the form Others",
     "registered",
     "remove unknown",
     "removed",
+    "several cancelled",
     "tags",
     "tags with a reservation",
     "update unknown",

@@ -58,15 +58,15 @@ fn a_tracker_moves_through_a_channel() {
     let (to_client, at_client) = mpsc::channel::<Tracker>();
     let server = thread::spawn(move || {
         let (mut queue, mut tracker) = at_server.recv().unwrap();
-        let params = tracker.get_req_params(ServerId(0)).unwrap();
+        let params = tracker.get_req_params(ServerId(0), Cost::ONE).unwrap();
         queue
             .add_request(ClientId(1), Token(1), params, ZERO)
             .unwrap();
         let pulled = queue.pull_request(ZERO).unwrap();
-        let Pulled::Returning { phase, .. } = pulled else {
+        let Pulled::Returning { phase, cost, .. } = pulled else {
             panic!("{pulled:?}");
         };
-        tracker.track_resp(ServerId(0), phase).unwrap();
+        tracker.track_resp(ServerId(0), phase, cost).unwrap();
         to_client.send(tracker).unwrap();
     });
     let mut queue = queue();
@@ -76,6 +76,6 @@ fn a_tracker_moves_through_a_channel() {
     to_server.send((queue, tracker)).unwrap();
     let mut tracker = at_client.recv().unwrap();
     server.join().unwrap();
-    let params = tracker.get_req_params(ServerId(0)).unwrap();
+    let params = tracker.get_req_params(ServerId(0), Cost::ONE).unwrap();
     assert_eq!((params.delta(), params.rho()), (1, 0));
 }

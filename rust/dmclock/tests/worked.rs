@@ -1,9 +1,9 @@
 //! The worked examples, each under its name: a script, its lines separated by `;`, and the replies.
 
 use dmclock::{
-    AddError, AtLimit, Cleaned, ClientId, ClientInfo, Counting, Moment, PhaseType, Pulled, Queue,
-    QueueConfig, RegisterError, ReqParams, ServerId, Shares, StampError, TagKind, Tags, Token,
-    Tracker, UpdateError,
+    AddError, ArriveError, AtLimit, Cleaned, ClientId, ClientInfo, Cost, Counting, Moment,
+    PhaseType, Pulled, Queue, QueueConfig, RegisterError, ReqParams, ServerId, ShardTracker,
+    Shares, StampError, TagKind, Tags, Token, Tracker, UpdateError,
 };
 use std::str::SplitWhitespace;
 
@@ -35,6 +35,7 @@ fn pulled_text(pulled: Pulled) -> String {
         client,
         token,
         phase,
+        cost,
         beyond,
     } = pulled
     else {
@@ -48,10 +49,21 @@ fn pulled_text(pulled: Pulled) -> String {
         PhaseType::Priority => "priority",
     };
     let beyond = if beyond { " beyond" } else { "" };
-    format!("grant {} {} {phase}{beyond}", client.0, token.0)
+    let cost = match cost {
+        Cost::ONE => String::new(),
+        cost => format!(" cost {}", cost.units()),
+    };
+    format!("grant {} {} {phase}{beyond}{cost}", client.0, token.0)
 }
 
-/// The reply to a line. Values are checked in the order moment, params, rate.
+fn counting(word: &str) -> Counting {
+    match word {
+        "all" => Counting::All,
+        _ => Counting::Others,
+    }
+}
+
+/// The reply to a line. Values are checked in the order moment, params, cost, rate.
 fn reply(queue: &mut Queue, line: &str) -> Result<String, String> {
     let words = &mut line.split_whitespace();
     let verb = words.next().unwrap();
@@ -68,10 +80,18 @@ fn reply(queue: &mut Queue, line: &str) -> Result<String, String> {
         let removed = queue.remove_by_client(client).map_err(refused)?;
         return Ok(format!("dropped {removed}"));
     }
+    if verb == "cancel" {
+        let (token, form) = (Token(small(words)), counting(words.next().unwrap()));
+        let removed = queue.cancel(client, token, form).map_err(refused)?;
+        return Ok(format!("dropped {removed}"));
+    }
     if verb == "add" {
         let (token, delta, rho) = (Token(small(words)), small(words), small(words));
         let at = Moment::new(number(words)).map_err(refused)?;
-        let params = ReqParams::new(delta, rho).map_err(refused)?;
+        let mut params = ReqParams::new(delta, rho).map_err(refused)?;
+        if words.next() == Some("cost") {
+            params = params.with_cost(Cost::new(small(words)).map_err(refused)?);
+        }
         let added = queue.add_request(client, token, params, at);
         return added.map(tags_text).map_err(refused);
     }
@@ -185,6 +205,73 @@ fn exact_thirds() {
 }
 
 #[test]
+fn a_request_of_four() {
+    let replies = ticks(
+        "client 1 100 1 - 0; client 2 - 1 - 0; add 1 11 0 0 0 cost 4; add 1 12 4 0 0 cost 4; \
+         add 2 21 0 0 0; pull 0; pull 0; pull 0; pull 0",
+    );
+    let wanted = "ok; ok; tags 0 0 0; tags 0 0 4000; tags - 0 0; grant 1 11 reservation cost 4; \
+                  grant 1 12 reservation cost 4; grant 2 21 priority; none";
+    assert_eq!(replies, wanted);
+}
+
+/// The grant of 12 takes four spacings off the reservation tag of 13.
+#[test]
+fn reduced_by_the_cost() {
+    for (at, phase) in [(799, "priority"), (800, "reservation")] {
+        let replies = ticks(&format!(
+            "client 1 10 1 - 0; add 1 11 0 0 0; add 1 12 8 8 0 cost 4; add 1 13 4 4 0; pull 0; \
+             pull 0; pull {at}"
+        ));
+        let wanted = format!(
+            "ok; tags 0 0 0; tags 800 0 8000; tags 1200 0 12000; grant 1 11 reservation; \
+             grant 1 12 priority cost 4; grant 1 13 {phase}"
+        );
+        assert_eq!(replies, wanted);
+    }
+}
+
+/// Four requests of a client with a limit, one of which comes later.
+const FOUR: &str = "client 1 - 1 10 0; add 1 11 1 1 0; add 1 12 1 1 0; add 1 13 1 1 0; \
+                    add 1 14 1 1 250";
+const FOUR_TAGS: &str = "ok; tags - 100 1000; tags - 200 2000; tags - 300 3000; tags - 400 4000";
+
+#[test]
+fn cancelled() {
+    let replies = ticks(&format!(
+        "{FOUR}; cancel 1 12 others; pull 100; pull 200; pull 299; cancel 1 14 others; \
+         add 1 15 1 1 299"
+    ));
+    let wanted = format!(
+        "{FOUR_TAGS}; dropped 1; grant 1 11 priority; grant 1 13 priority; future 300; dropped 1; \
+         tags - 350 3000"
+    );
+    assert_eq!(replies, wanted);
+}
+
+#[test]
+fn cancelled_idle_between() {
+    let replies = ticks(
+        "client 1 - 1 10 0; add 1 11 1 1 0; add 1 12 1 1 200; add 1 13 1 1 200; \
+         cancel 1 12 others; cancel 1 11 others; pull 250; pull 300",
+    );
+    let wanted = "ok; tags - 100 1000; tags - 200 2000; tags - 300 3000; dropped 1; dropped 1; \
+                  future 300; grant 1 13 priority";
+    assert_eq!(replies, wanted);
+}
+
+#[test]
+fn cancelled_all() {
+    let replies = ticks(&format!(
+        "{FOUR}; cancel 1 12 all; pull 100; pull 200; pull 299; pull 300"
+    ));
+    let wanted = format!(
+        "{FOUR_TAGS}; dropped 1; grant 1 11 priority; future 300; future 300; grant 1 13 priority"
+    );
+    assert_eq!(replies, wanted);
+}
+
+#[test]
 fn idle_then_erased() {
     let config = QueueConfig::new(1000, 100, 1000, AtLimit::Wait).unwrap();
     let script = "client 1 - 1 - 0; clean 100; add 1 1 0 0 100; pull 100; clean 199; clean 200; \
@@ -212,12 +299,15 @@ fn refused_values() {
     let replies = ticks(
         "client 1 - 1 - 0; client 1 - 0 - 18446744073709551615; client 1 - 0 - 0; \
          client 1 3 3 3 0; client 2 3 3 3 0; client 2 10 3 3 0; client 2 10 1 3 0; \
-         add 2 1 0 1 18446744073709551615; add 2 1 0 1 0; add 2 1 0 0 0; \
-         pull 18446744073709551615; clean 18446744073709551615; drop 2",
+         add 2 1 0 1 18446744073709551615 cost 0; add 2 1 0 1 0 cost 0; add 2 1 0 0 0 cost 0; \
+         add 2 1 0 0 0; \
+         pull 18446744073709551615; clean 18446744073709551615; drop 2; \
+         cancel 2 1 others; cancel 1 1 all",
     );
     let wanted = "ok; refused Past; refused Zero; refused Known; refused InexactReservation; \
                   refused InexactWeight; refused InexactLimit; refused Past; refused Rho; \
-                  refused Unknown; refused Past; refused Past; refused Unknown";
+                  refused Zero; refused Unknown; refused Past; refused Past; refused Unknown; \
+                  refused Unknown; dropped 0";
     assert_eq!(replies, wanted);
 }
 
@@ -232,10 +322,10 @@ fn three_stamps(counting: Counting) -> (Vec<(u32, u32)>, [[u64; 6]; 2]) {
         None,
     ];
     for (server, response) in [0, 1, 0].map(ServerId).into_iter().zip(responses) {
-        let params = tracker.get_req_params(server).unwrap();
+        let params = tracker.get_req_params(server, Cost::ONE).unwrap();
         stamps.push((params.delta(), params.rho()));
         if let Some(phase) = response {
-            tracker.track_resp(server, phase).unwrap();
+            tracker.track_resp(server, phase, Cost::ONE).unwrap();
         }
     }
     let known = [0, 1].map(|server| {
@@ -257,12 +347,12 @@ fn three_stamps(counting: Counting) -> (Vec<(u32, u32)>, [[u64; 6]; 2]) {
 fn skip_between(counting: Counting) -> ([(u32, u32); 2], (u64, u64)) {
     let mut tracker = Tracker::new(2, 1 << 62, counting).unwrap();
     for phase in [PhaseType::Reservation, PhaseType::Priority] {
-        tracker.track_resp(ServerId(0), phase).unwrap();
+        tracker.track_resp(ServerId(0), phase, Cost::ONE).unwrap();
     }
     tracker.skip(ServerId(1)).unwrap();
     let status = tracker.status(ServerId(1)).unwrap();
     let stamps = [0, 1].map(|server| {
-        let params = tracker.get_req_params(ServerId(server)).unwrap();
+        let params = tracker.get_req_params(ServerId(server), Cost::ONE).unwrap();
         (params.delta(), params.rho())
     });
     (stamps, (status.pending_delta, status.pending_rho))
@@ -283,16 +373,116 @@ fn two_server_tracker() {
     assert_eq!(three_stamps(Counting::All), wanted);
 }
 
+/// A request to shard 0, one to shard 1 that its queue refuses, and one to shard 1 again.
+#[test]
+fn two_shards() {
+    let mut shards = ShardTracker::new(2, 6).unwrap();
+    let cost = |cost| Cost::new(cost).unwrap();
+    let came = |delta, rho, cost| ReqParams::new(delta, rho).unwrap().with_cost(cost);
+    let (zero, one) = (ServerId(0), ServerId(1));
+    let first = shards.arrive(zero, came(2, 1, cost(1)));
+    assert_eq!(first, Ok(came(2, 1, cost(1))));
+    let second = shards.arrive(one, came(3, 0, cost(4))).unwrap();
+    assert_eq!(second, came(5, 1, cost(4)));
+    shards.give_back(one, second).unwrap();
+    let third = shards.arrive(one, came(1, 1, cost(2)));
+    assert_eq!(third, Ok(came(6, 2, cost(2))));
+    let known = |shard| {
+        let s = shards.status(shard).unwrap();
+        let counts = [s.sent_delta, s.sent_rho, s.pending_delta, s.pending_rho];
+        (counts, s.completions, s.reservation)
+    };
+    assert_eq!(known(zero), ([2, 1, 4, 1], 6, 2));
+    assert_eq!(known(one), ([6, 2, 0, 0], 6, 2));
+}
+
+/// A shard that was not used while 2^32-1 came for the other, before it is skipped and after.
+#[test]
+fn skipped_shard() {
+    let mut shards = ShardTracker::new(2, 1 << 62).unwrap();
+    let params = |delta, rho| ReqParams::new(delta, rho).unwrap();
+    let (zero, one) = (ServerId(0), ServerId(1));
+    shards.arrive(zero, params(u32::MAX, 1)).unwrap();
+    let stuck = shards.arrive(one, params(1, 0));
+    assert_eq!(stuck, Err(ArriveError::TrackFull));
+    shards.skip(one).unwrap();
+    assert_eq!(shards.arrive(one, params(1, 0)), Ok(params(1, 0)));
+    let status = shards.status(one).unwrap();
+    assert_eq!((status.sent_delta, status.pending_delta), (1, 0));
+    assert_eq!(status.completions, 1 << 32);
+}
+
 #[test]
 fn others_tracker() {
     let known = [[3, 2, 0, 0, 2, 1], [2, 2, 0, 0, 2, 1]];
     let wanted = (vec![(1, 1), (2, 2), (2, 1)], known);
     assert_eq!(three_stamps(Counting::Others), wanted);
     let mut tracker = Tracker::new(2, 1, Counting::Others).unwrap();
-    let params = tracker.get_req_params(ServerId(0)).unwrap();
+    let params = tracker.get_req_params(ServerId(0), Cost::ONE).unwrap();
     assert_eq!((params.delta(), params.rho()), (1, 1));
-    let again = tracker.get_req_params(ServerId(0));
+    let again = tracker.get_req_params(ServerId(0), Cost::ONE);
     assert_eq!(again, Err(StampError::TrackFull));
+}
+
+fn cost(units: u32) -> Cost {
+    Cost::new(units).unwrap()
+}
+
+/// A stamp of this cost and its response, another stamp and a response of another request, and a
+/// last stamp: delta, rho and cost of each stamp.
+fn stamps_of_costs(counting: Counting, costs: [u32; 4]) -> [(u32, u32, u32); 3] {
+    let [first, second, other, last] = costs.map(cost);
+    let mut tracker = Tracker::new(2, 100, counting).unwrap();
+    let one = tracker.get_req_params(ServerId(0), first).unwrap();
+    let reserved = tracker.track_resp(ServerId(0), PhaseType::Reservation, first);
+    let two = tracker.get_req_params(ServerId(1), second).unwrap();
+    let by_weight = tracker.track_resp(ServerId(1), PhaseType::Priority, other);
+    let three = tracker.get_req_params(ServerId(0), last).unwrap();
+    assert_eq!((reserved, by_weight), (Ok(()), Ok(())));
+    [one, two, three].map(|params| (params.delta(), params.rho(), params.cost().units()))
+}
+
+#[test]
+fn costs_are_counted() {
+    let wanted = [(0, 0, 8), (8, 8, 1), (10, 8, 1)];
+    assert_eq!(stamps_of_costs(Counting::All, [8, 1, 2, 1]), wanted);
+    let wanted = [(8, 8, 8), (11, 11, 3), (4, 1, 1)];
+    assert_eq!(stamps_of_costs(Counting::Others, [8, 3, 3, 1]), wanted);
+}
+
+/// A tracker's stamp carries the cost to the queue, and the grant carries it back.
+#[test]
+fn a_cost_goes_round() {
+    let mut queue = Queue::new(TagKind::Tick, setting(1000, AtLimit::Wait)).unwrap();
+    let mut tracker = Tracker::new(1, 100, Counting::Others).unwrap();
+    let (client, server, zero) = (ClientId(1), ServerId(0), Moment::zero());
+    let info = ClientInfo::new(Some(10), 1, None).unwrap();
+    queue.register(client, info, zero).unwrap();
+    let params = tracker.get_req_params(server, cost(5)).unwrap();
+    queue.add_request(client, Token(1), params, zero).unwrap();
+    let pulled = queue.pull_request(Moment::new(500).unwrap()).unwrap();
+    let Pulled::Returning { phase, cost, .. } = pulled else {
+        panic!("{pulled:?}");
+    };
+    assert_eq!((phase, cost.units()), (PhaseType::Reservation, 5));
+    tracker.track_resp(server, phase, cost).unwrap();
+    let status = tracker.status(server).unwrap();
+    assert_eq!((status.completions, status.reservation), (5, 5));
+}
+
+#[test]
+fn returned_stamps() {
+    let params = |delta, rho, units| ReqParams::new(delta, rho).unwrap().with_cost(cost(units));
+    let (stamp, returned) = (params(3, 1, 2), params(7, 5, 4));
+    let with = |counting| stamp.with_returned(returned, counting);
+    assert_eq!(with(Counting::All), Some(params(10, 6, 2)));
+    assert_eq!(with(Counting::Others), Some(params(6, 2, 2)));
+    let full = params(u32::MAX - 6, 0, 1);
+    let with = |delta, counting| full.with_returned(params(delta, 4, 4), counting);
+    assert_eq!(with(6, Counting::All), Some(params(u32::MAX, 4, 1)));
+    assert_eq!(with(7, Counting::All), None);
+    assert_eq!(with(10, Counting::Others), Some(params(u32::MAX, 0, 1)));
+    assert_eq!(with(11, Counting::Others), None);
 }
 
 #[test]

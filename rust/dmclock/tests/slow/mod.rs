@@ -2,8 +2,9 @@
 //! clients. The tests run it beside the library.
 
 use dmclock::{
-    AddError, AtLimit, Cleaned, ClientId, ClientInfo, Moment, PhaseType, PullError, Pulled,
-    QueueConfig, RegisterError, RemoveError, ReqParams, Shares, TagKind, Token, UpdateError,
+    AddError, AtLimit, CancelError, Cleaned, ClientId, ClientInfo, Cost, Counting, Moment,
+    PhaseType, PullError, Pulled, QueueConfig, RegisterError, RemoveError, ReqParams, Shares,
+    TagKind, Token, UpdateError,
 };
 use std::cmp::Ordering;
 
@@ -59,6 +60,11 @@ impl Fraction {
         Fraction::new(kind, self.numer * i128::from(count), self.denom)
     }
 
+    /// How far a tag is past another; 0 if that is no value.
+    fn above(self, kind: TagKind, floor: Fraction) -> Fraction {
+        self.minus(kind, floor).unwrap_or(Fraction::whole(0))
+    }
+
     /// The least whole number that is not below, and not below 0.
     fn ceil(self) -> u128 {
         let ceil = -(-self.numer).div_euclid(self.denom);
@@ -86,11 +92,16 @@ pub struct SlowTags {
     pub p: Fraction,
 }
 
+/// How far each tag, in the order R, L, P, may fall by cancels.
+type Slack = [Fraction; 3];
+
 #[derive(Clone)]
 struct Request {
     client: ClientId,
     token: Token,
+    cost: Cost,
     tags: SlowTags,
+    slack: Slack,
 }
 
 #[derive(Clone)]
@@ -98,8 +109,94 @@ struct Client {
     id: ClientId,
     info: ClientInfo,
     previous: SlowTags,
+    /// That of the last accepted request, and whether that one was cancelled.
+    slack: Slack,
+    cancelled: bool,
     idle: bool,
     last_arrival: u64,
+}
+
+/// A tag and its slack.
+#[derive(Clone, Copy)]
+struct Level {
+    tag: Fraction,
+    slack: Fraction,
+}
+
+impl Level {
+    /// The level less an amount, where both stay values.
+    fn less(self, kind: TagKind, amount: Fraction) -> Level {
+        match (self.tag.minus(kind, amount), self.slack.minus(kind, amount)) {
+            (Some(tag), Some(slack)) => Level { tag, slack },
+            _ => self,
+        }
+    }
+}
+
+/// What became of a tag, for the request behind.
+#[derive(Clone, Copy)]
+struct Passed {
+    was: Fraction,
+    now_at: Level,
+    cancelled: bool,
+}
+
+/// A cancel passes a tag, whose request is charged so much if it is taken back.
+fn pass(kind: TagKind, front: Option<Passed>, was: Level, charged: Option<Fraction>) -> Passed {
+    let mut now_at = was;
+    if let Some(front) = front {
+        let fall = front.was.above(kind, front.now_at.tag);
+        now_at = now_at.less(kind, fall.min(was.slack));
+        if front.cancelled {
+            now_at.slack = now_at.slack.min(front.now_at.slack);
+        }
+    }
+    if let Some(charged) = charged {
+        let past = front.map_or(now_at.slack, |front| {
+            now_at.tag.above(kind, front.now_at.tag)
+        });
+        now_at = now_at.less(kind, charged.min(past).min(now_at.slack));
+    }
+    Passed {
+        was: was.tag,
+        now_at,
+        cancelled: charged.is_some(),
+    }
+}
+
+/// A cancel passes the tags of a request, or the previous tags.
+fn pass_tags(
+    kind: TagKind,
+    passed: &mut [Option<Passed>; 3],
+    tags: &mut SlowTags,
+    slack: &mut Slack,
+    charged: Option<Slack>,
+) {
+    let tags = [tags.r.as_mut(), Some(&mut tags.l), Some(&mut tags.p)];
+    for (n, tag) in tags.into_iter().enumerate() {
+        if let Some(tag) = tag {
+            let level = Level {
+                tag: *tag,
+                slack: slack[n],
+            };
+            let after = pass(kind, passed[n], level, charged.map(|charged| charged[n]));
+            (*tag, slack[n]) = (after.now_at.tag, after.now_at.slack);
+            passed[n] = Some(after);
+        }
+    }
+}
+
+impl Client {
+    /// How far the tags of a request that arrives are past these, and behind a cancelled request at
+    /// most as far as that might still have fallen.
+    fn slack_of(&self, kind: TagKind, tags: SlowTags, floors: [Fraction; 3]) -> Slack {
+        let tags = [tags.r, Some(tags.l), Some(tags.p)];
+        [0, 1, 2].map(|n| match tags[n].map(|tag| tag.above(kind, floors[n])) {
+            Some(slack) if self.cancelled => slack.min(self.slack[n]),
+            Some(slack) => slack,
+            None => self.slack[n],
+        })
+    }
 }
 
 /// The queue.
@@ -201,6 +298,8 @@ impl Slow {
             id,
             info,
             previous,
+            slack: [zero; 3],
+            cancelled: false,
             idle: true,
             last_arrival: t,
         });
@@ -314,16 +413,20 @@ impl Slow {
             }
         }
         let client = &mut clients[place];
+        let slack = client.slack_of(self.kind, tags, [now, now, least]);
         client.previous = SlowTags {
             r: tags.r.or(previous.r),
             ..tags
         };
+        (client.slack, client.cancelled) = (slack, false);
         client.idle = false;
         client.last_arrival = t;
         requests.push(Request {
             client: id,
             token,
+            cost: params.cost(),
             tags,
+            slack,
         });
         (self.requests, self.clients, self.last) = (requests, clients, t);
         if self.config.shares() == Shares::Virtual {
@@ -347,14 +450,14 @@ impl Slow {
             .map(|(_, _, place)| place)
     }
 
-    /// Grants by weight: one spacing goes off the client's reservation tags.
+    /// Grants by weight: a spacing for each unit of its cost goes off the client's reservation tags.
     fn grant_by_weight(&mut self, place: usize, beyond: bool, t: u64) -> Result<Pulled, PullError> {
         let (mut requests, mut clients) = (self.requests.clone(), self.clients.clone());
         let granted = requests.remove(place);
         let owner = self.place(granted.client).unwrap();
         if let Some(rate) = clients[owner].info.reservation() {
             let less = |tag: Fraction| {
-                let amount = self.spacing(rate)?;
+                let amount = self.spacing(rate)?.times(self.kind, granted.cost.units())?;
                 tag.minus(self.kind, amount)
             };
             for request in requests.iter_mut().filter(|r| r.client == granted.client) {
@@ -373,6 +476,7 @@ impl Slow {
             client: granted.client,
             token: granted.token,
             phase: PhaseType::Priority,
+            cost: granted.cost,
             beyond,
         })
     }
@@ -387,6 +491,7 @@ impl Slow {
                 client: granted.client,
                 token: granted.token,
                 phase: PhaseType::Reservation,
+                cost: granted.cost,
                 beyond: false,
             });
         }
@@ -415,6 +520,48 @@ impl Slow {
         self.place(id).ok_or(RemoveError::Unknown)?;
         let before = self.requests.len();
         self.requests.retain(|request| request.client != id);
+        Ok((before - self.requests.len()) as u32)
+    }
+
+    /// What a request of this cost was charged: with its rates now, if its stamp counted it.
+    fn charged(&self, info: ClientInfo, cost: Cost, counting: Counting) -> Slack {
+        let rates = [info.reservation(), info.limit(), Some(info.weight())];
+        rates.map(|rate| match (rate, counting) {
+            (Some(rate), Counting::Others) => self
+                .spacing(rate)
+                .and_then(|spacing| spacing.times(self.kind, cost.units()))
+                .unwrap_or(Fraction::whole(0)),
+            _ => Fraction::whole(0),
+        })
+    }
+
+    pub fn cancel(
+        &mut self,
+        id: ClientId,
+        token: Token,
+        counting: Counting,
+    ) -> Result<u32, CancelError> {
+        let place = self.place(id).ok_or(CancelError::Unknown)?;
+        let (info, mut passed, mut last) = (self.clients[place].info, [None; 3], false);
+        let (mut kept, before) = (Vec::new(), self.requests.len());
+        for mut request in std::mem::take(&mut self.requests) {
+            if request.client != id {
+                kept.push(request);
+                continue;
+            }
+            last = request.token == token;
+            let charged = last.then(|| self.charged(info, request.cost, counting));
+            let Request { tags, slack, .. } = &mut request;
+            pass_tags(self.kind, &mut passed, tags, slack, charged);
+            if !last {
+                kept.push(request);
+            }
+        }
+        self.requests = kept;
+        let client = &mut self.clients[place];
+        let previous = (&mut client.previous, &mut client.slack);
+        pass_tags(self.kind, &mut passed, previous.0, previous.1, None);
+        client.cancelled |= last;
         Ok((before - self.requests.len()) as u32)
     }
 

@@ -8,6 +8,7 @@ use dmc_tag::reply::{Reply, Tags};
 use dmc_tag::tag::Tag;
 use dmc_tick::tick::TickTag;
 use dmc_types::config::{PhaseType, TagKind};
+use dmc_types::cost::Cost;
 use dmc_types::ids::{ClientId, ServerId, Token};
 use dmc_types::info::ClientInfo;
 use dmc_types::moment::Moment;
@@ -20,21 +21,21 @@ use std::test::Fail;
 
 /// A cluster core, and the allocation failures that it reported.
 #[derive(Drop)]
-struct Core {
+pub struct Core {
     cluster: ClusterCore<TickTag>,
     failures: Failures,
 }
 
 type Answer = Result<CoreReply<TickTag>, CoreFault>;
 
-const ONE: ClientId = ClientId(1);
+pub const ONE: ClientId = ClientId(1);
 
-const ZERO: ServerId = ServerId(0);
+pub const ZERO: ServerId = ServerId(0);
 
 // ---- scenes
 
 // A scene in ticks, with further keys for the scene and for client 1.
-fn open(alloc: Global, scene: &str, client: &str) -> Result<Core, Fail> {
+pub fn open(alloc: Global, scene: &str, client: &str) -> Result<Core, Fail> {
     let text = format!(in alloc;
         "hz = 1000\ntags = \"tick\"\nworkers = 1\nstep = 50\nseed = 1\nmax_pulls = 100\n{scene}
 [[client]]\nid = 1\nweight = 1\nrequests = 2\nwindow = 1\n{client}\n"
@@ -58,8 +59,13 @@ fn two_clients(alloc: Global) -> Result<Core, Fail> {
     )
 }
 
+// The completions of client 1: what they cost, and what those by the reservation cost.
+pub fn completions(core: &Core) -> Option<(u64, u64)> {
+    core.cluster.completions(ONE)
+}
+
 // Ends a test of a cluster.
-fn end(core: Core) -> Result<(), Fail> {
+pub fn end(core: Core) -> Result<(), Fail> {
     let Core { cluster, failures } = core;
     drop(cluster);
     Ok(failures.end()?)
@@ -71,15 +77,20 @@ fn moment(ticks: u32) -> Moment {
     Moment::new(u64::from(ticks)).unwrap()
 }
 
-fn stamp(client: ClientId, server: ServerId, token: u32) -> CoreEvent {
+pub fn stamp_of_cost(client: ClientId, server: ServerId, token: u32, cost: Cost) -> CoreEvent {
     CoreEvent::Stamp {
         client,
         server,
         token: Token(token),
+        cost,
     }
 }
 
-fn arrive(client: ClientId, server: ServerId, ticks: u32) -> CoreEvent {
+pub fn stamp(client: ClientId, server: ServerId, token: u32) -> CoreEvent {
+    stamp_of_cost(client, server, token, Cost::ONE)
+}
+
+pub fn arrive(client: ClientId, server: ServerId, ticks: u32) -> CoreEvent {
     CoreEvent::Arrive {
         client,
         server,
@@ -87,19 +98,29 @@ fn arrive(client: ClientId, server: ServerId, ticks: u32) -> CoreEvent {
     }
 }
 
-fn pull(server: ServerId, ticks: u32) -> CoreEvent {
+pub fn pull(server: ServerId, ticks: u32) -> CoreEvent {
     CoreEvent::Pull {
         server,
         at: moment(ticks),
     }
 }
 
-fn respond(client: ClientId, server: ServerId, phase: PhaseType) -> CoreEvent {
+pub fn respond_of_cost(
+    client: ClientId,
+    server: ServerId,
+    phase: PhaseType,
+    cost: Cost,
+) -> CoreEvent {
     CoreEvent::Respond {
         client,
         server,
         phase,
+        cost,
     }
+}
+
+pub fn respond(client: ClientId, server: ServerId, phase: PhaseType) -> CoreEvent {
+    respond_of_cost(client, server, phase, Cost::ONE)
 }
 
 fn update(server: ServerId, client: ClientId, info: ClientInfo) -> CoreEvent {
@@ -115,7 +136,7 @@ fn remove(server: ServerId, client: ClientId) -> CoreEvent {
     CoreEvent::Remove { server, client }
 }
 
-fn clean(server: ServerId, ticks: u32) -> CoreEvent {
+pub fn clean(server: ServerId, ticks: u32) -> CoreEvent {
     CoreEvent::Clean {
         server,
         at: moment(ticks),
@@ -139,27 +160,27 @@ fn answer(core: &mut Core, event: &CoreEvent) -> Answer {
 }
 
 // An event has this result.
-fn answers(rt: &impl Abort, core: &mut Core, event: CoreEvent, expected: Answer) {
+pub fn answers(rt: &impl Abort, core: &mut Core, event: CoreEvent, expected: Answer) {
     assert_same(rt, &answer(core, &event), &expected);
 }
 
 // A server's queue has this reply to an event.
-fn replies(rt: &impl Abort, core: &mut Core, event: CoreEvent, reply: Reply<TickTag>) {
+pub fn replies(rt: &impl Abort, core: &mut Core, event: CoreEvent, reply: Reply<TickTag>) {
     answers(rt, core, event, Ok(CoreReply::Served(reply)));
 }
 
 // A server's queue does not know the client.
-fn refuses_unknown(rt: &impl Abort, core: &mut Core, event: CoreEvent) {
+pub fn refuses_unknown(rt: &impl Abort, core: &mut Core, event: CoreEvent) {
     replies(rt, core, event, Reply::Refused(Refusal::Unknown));
 }
 
 // An event is refused.
-fn refuses(rt: &impl Abort, core: &mut Core, event: CoreEvent, fault: CoreFault) {
+pub fn refuses(rt: &impl Abort, core: &mut Core, event: CoreEvent, fault: CoreFault) {
     answers(rt, core, event, Err(fault));
 }
 
 // A client stamps a request to a server with these counts: delta and rho.
-fn stamps(
+pub fn stamps(
     rt: &impl Abort,
     core: &mut Core,
     client: ClientId,
@@ -172,12 +193,12 @@ fn stamps(
     answers(rt, core, stamp(client, server, token), Ok(stamped));
 }
 
-fn tick(ticks: u32) -> TickTag {
+pub fn tick(ticks: u32) -> TickTag {
     TickTag::of_moment(moment(ticks))
 }
 
 // A request of client 1 arrives at server 0, and has these tags: reservation, limit and weight.
-fn arrives(rt: &impl Abort, core: &mut Core, ticks: u32, tags: (Option<u32>, u32, u32)) {
+pub fn arrives(rt: &impl Abort, core: &mut Core, ticks: u32, tags: (Option<u32>, u32, u32)) {
     let tags = Tags {
         r: tags.0.map(tick),
         l: tick(tags.1),
@@ -191,18 +212,39 @@ fn granted(token: u32, phase: PhaseType, beyond: bool) -> Reply<TickTag> {
         client: ONE,
         token: Token(token),
         phase,
+        cost: Cost::ONE,
         beyond,
     }
 }
 
+pub fn granted_of_cost(token: u32, cost: Cost) -> Reply<TickTag> {
+    Reply::Granted {
+        client: ONE,
+        token: Token(token),
+        phase: PhaseType::Priority,
+        cost,
+        beyond: false,
+    }
+}
+
 // Server 0 grants a request of client 1, within its limit.
-fn grants(rt: &impl Abort, core: &mut Core, ticks: u32, token: u32, phase: PhaseType) {
+pub fn grants(rt: &impl Abort, core: &mut Core, ticks: u32, token: u32, phase: PhaseType) {
     replies(rt, core, pull(ZERO, ticks), granted(token, phase, false));
 }
 
 // Client 1 responds to a grant of server 0.
 fn responds(rt: &impl Abort, core: &mut Core, phase: PhaseType) {
     answers(rt, core, respond(ONE, ZERO, phase), Ok(CoreReply::Counted));
+}
+
+// The result of an event that needs no memory: it is given once.
+pub fn answers_at_once(
+    rt: &impl Abort,
+    core: &mut Core,
+    event: CoreEvent,
+    reply: CoreReply<TickTag>,
+) {
+    assert_same(rt, &step(core, &event), &Ok(reply));
 }
 
 // ---- the worked examples
@@ -234,7 +276,7 @@ fn plan_and_core(rt: HostRuntime) -> Result<(), Fail> {
 }
 
 // A request of client 1, with a limit of 20, is granted at 0 and its response counted; the next one arrives at 0.
-fn limited(rt: &impl Abort, core: &mut Core) {
+pub fn limited(rt: &impl Abort, core: &mut Core) {
     let phase = PhaseType::Priority;
     stamps(rt, core, ONE, ZERO, 1, (0, 0));
     arrives(rt, core, 0, (None, 0, 0));

@@ -1,4 +1,5 @@
 //! The kinds of indexes, and the examples that hold of each: the one place that names a kind.
+use crate::alike::alike_over;
 use crate::growths::grown_over;
 use crate::heads::{changes_over, marks_over};
 use crate::indexes::indexed_clients_over;
@@ -7,6 +8,7 @@ use crate::runs::five_commands_over;
 use dmc_heap::adaptive_index::HeapIndexes;
 use dmc_index::index::Indexes;
 use dmc_index::list_index::ListIndexes;
+use dmc_ratio::ratio::RatioTag;
 use dmc_tick::tick::TickTag;
 use std::alloc::Global;
 use std::process::Abort;
@@ -36,6 +38,8 @@ pub enum Example {
     Limits,
     /// Queues whose allocations are refused.
     GrownQueues,
+    /// Random commands.
+    RandomCommands,
 }
 
 /// Runs an example over these indexes.
@@ -47,6 +51,7 @@ fn run<I: Indexes<TickTag>>(rt: &impl Abort, alloc: Global, example: Example) ->
         Example::FiveCommands => five_commands_over::<I>(rt, alloc),
         Example::Limits => limits_over::<I>(rt, alloc),
         Example::GrownQueues => grown_over::<I>(rt, alloc),
+        Example::RandomCommands => alike_over::<TickTag, I>(rt, alloc),
     }
 }
 
@@ -62,4 +67,9 @@ pub fn over(rt: &impl Abort, alloc: Global, kind: Kind, example: Example) -> Res
 pub fn over_both(rt: &impl Abort, alloc: Global, example: Example) -> Result<(), Fail> {
     over(rt, alloc, Kind::Lists, example)?;
     over(rt, alloc, Kind::Heaps, example)
+}
+
+/// Random commands in ratios, over heaps.
+pub fn over_ratios(rt: &impl Abort, alloc: Global) -> Result<(), Fail> {
+    alike_over::<RatioTag, HeapIndexes>(rt, alloc)
 }

@@ -210,8 +210,9 @@ fn assert_closed<S: Setup>(rt: &impl Abort, stamps: &StampBooks<S>, grants: &Gra
     assert_same(rt, &stamps.delta.gathered(), &3);
     assert_same(rt, &stamps.rho.total(), &2);
     assert_same(rt, &stamps.rho.open_tills(), &0);
-    assert_same(rt, &grants.priority.open_tills(), &0);
-    assert_same(rt, &grants.reservation.total(), &0);
+    assert_same(rt, &grants.priority.grants.open_tills(), &0);
+    assert_same(rt, &grants.priority.cost.gathered(), &4);
+    assert_same(rt, &grants.reservation.grants.total(), &0);
 }
 
 fn pair<S: Setup>(
@@ -221,12 +222,12 @@ fn pair<S: Setup>(
     nothing: &ReqParams,
 ) -> Result<(), Full>
     requires name { blank.name ≡ S.name }
-    requires books { blank.books ≡ 9 }
+    requires books { blank.books ≡ 13 }
 {
     let mut mint = blank.open::<S>();
     let (mut queue, mut tracker) = open_pair(&mut mint, ClientId(1), ServerId(2))?;
     assert!(rt; open_pair(&mut mint, ClientId(1), ServerId(3)).is_err());
-    assert_same(rt, &mint.left(), &4);
+    assert_same(rt, &mint.left(), &6);
     let mut sent = tracker.books.delta.till()?;
     tracker.books.delta.issue(&mut sent, 3)?;
     shift_till(&mut sent, &mut queue.held.delta, 3);
@@ -242,6 +243,9 @@ fn pair<S: Setup>(
     tracker.books.stamps.issue(&mut queue.held.stamps, 1)?;
     assert!(rt; queue.held.covers(params));
     assert!(rt; queue.held.covers(nothing));
+    let priority = &mut queue.books.priority;
+    priority.grants.issue(&mut tracker.held.priority.grants, 1)?;
+    priority.cost.issue(&mut tracker.held.priority.cost, 4)?;
     let (stamps, grants) = close_pair(queue, tracker);
     assert_closed(rt, &stamps, &grants);
     Ok(())
@@ -251,6 +255,6 @@ fn pair<S: Setup>(
 fn pair_opened_and_closed(rt: HostRuntime) -> Result<(), Fail> {
     let params = ReqParams::new(3, 2).ok().ok_or("rho is at most delta")?;
     let nothing = ReqParams::new(0, 0).ok().ok_or("rho is at most delta")?;
-    pair::<Brand>(&rt, Blank::new(9), &params, &nothing)?;
+    pair::<Brand>(&rt, Blank::new(13), &params, &nothing)?;
     Ok(())
 }

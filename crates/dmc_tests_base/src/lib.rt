@@ -3,6 +3,12 @@
 #![tactic(auto)]
 
 #[cfg(test)]
+mod alike;
+#[cfg(test)]
+mod core_cancels;
+#[cfg(test)]
+mod core_costs;
+#[cfg(test)]
 mod cores;
 #[cfg(test)]
 mod events;
@@ -37,6 +43,8 @@ mod recorded;
 #[cfg(test)]
 mod records;
 #[cfg(test)]
+mod returned;
+#[cfg(test)]
 mod rosters;
 #[cfg(test)]
 mod runs;
@@ -45,9 +53,13 @@ mod same;
 #[cfg(test)]
 mod scenes;
 #[cfg(test)]
+mod shards;
+#[cfg(test)]
 mod standbys;
 #[cfg(test)]
 mod tags;
+#[cfg(test)]
+mod tracker_costs;
 #[cfg(test)]
 mod trackers;
 #[cfg(test)]

@@ -8,6 +8,7 @@ use dmc_tag::reply::Pulled;
 use dmc_tag::scheduler::Scheduler;
 use dmc_tick::tick::TickTag;
 use dmc_types::config::PhaseType;
+use dmc_types::cost::Cost;
 use dmc_types::ids::{ClientId, Token};
 use dmc_types::info::ClientInfo;
 use dmc_types::moment::Moment;
@@ -72,6 +73,7 @@ fn request_too_many<S: Scheduler<TickTag>>(rt: &impl Abort, queue: &mut S) -> Re
         client: ClientId(1),
         token: Token(0),
         phase: PhaseType::Priority,
+        cost: Cost::ONE,
         beyond: false,
     };
     assert_same(rt, &queue.pull_request(Moment::zero()), &Ok(first));

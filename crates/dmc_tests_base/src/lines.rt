@@ -8,7 +8,8 @@ use dmc_text::reply::read_reply;
 use dmc_text::write::write_reply;
 use dmc_tick::tick::TickTag;
 use dmc_types::command::Command;
-use dmc_types::config::{AtLimit, PhaseType, QueueConfig, Shares};
+use dmc_types::config::{AtLimit, Counting, PhaseType, QueueConfig, Shares};
+use dmc_types::cost::Cost;
 use dmc_types::ids::{ClientId, Token};
 use dmc_types::info::ClientInfo;
 use dmc_types::moment::Moment;
@@ -135,6 +136,27 @@ fn commands(rt: HostRuntime) -> Result<(), Fail> {
     Ok(())
 }
 
+/// The line of a cancel of token 7 of client 1.
+fn cancels(rt: &impl Abort, line: &[u8], counting: Counting) {
+    let cancel = Command::Cancel {
+        client: ClientId(1),
+        token: Token(7),
+        counting,
+    };
+    says(rt, line, Ok(Line::Ask(cancel)));
+}
+
+#[test]
+fn cancel_lines(rt: HostRuntime) -> Result<(), Fail> {
+    cancels(&rt, b"cancel 1 7 all", Counting::All);
+    cancels(&rt, b" cancel  1 7 others ", Counting::Others);
+    says(&rt, b"cancel 1 7", Err(LineCause::Words));
+    says(&rt, b"cancel 1 7 other", Err(LineCause::Words));
+    says(&rt, b"cancel 1 7 all 0", Err(LineCause::Words));
+    says(&rt, b"cancel 1 all all", Err(LineCause::Number));
+    Ok(())
+}
+
 #[test]
 fn refused_values(rt: HostRuntime) -> Result<(), Fail> {
     says(
@@ -176,6 +198,7 @@ fn grants(rt: HostRuntime) -> Result<(), Fail> {
         client: ClientId(1),
         token: Token(7),
         phase: PhaseType::Priority,
+        cost: Cost::ONE,
         beyond: true,
     };
     let mut out = Vec::new(rt.alloc());

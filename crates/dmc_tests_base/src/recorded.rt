@@ -8,6 +8,7 @@ use dmc_tag::tag::Tag;
 use dmc_tick::tick::TickTag;
 use dmc_types::command::Command;
 use dmc_types::config::{AtLimit, PhaseType, QueueConfig};
+use dmc_types::cost::Cost;
 use dmc_types::ids::{ClientId, Token, WorkerId};
 use dmc_types::info::ClientInfo;
 use dmc_types::moment::Moment;
@@ -37,13 +38,18 @@ fn registered(
     Ok(answered(command, Reply::Registered))
 }
 
-/// A first request, whose tags are all 0.
-fn queued(client: u32, token: u32, has_reservation: bool) -> Result<Event<TickTag>, Fail> {
+/// A first request of this cost, whose tags are all 0.
+fn queued(
+    client: u32,
+    token: u32,
+    cost: Cost,
+    has_reservation: bool,
+) -> Result<Event<TickTag>, Fail> {
     let zero = TickTag::of_moment(Moment::zero());
     let command = Command::Add {
         client: ClientId(client),
         token: Token(token),
-        params: ReqParams::new(0, 0)?,
+        params: ReqParams::new(0, 0)?.with_cost(cost),
         at: Moment::zero(),
     };
     let tags = Tags {
@@ -70,11 +76,12 @@ fn queued_ahead(token: u32) -> Result<Event<TickTag>, Fail> {
     Ok(answered(command, Reply::Tagged(tags)))
 }
 
-fn granted(client: u32, token: u32, phase: PhaseType) -> Event<TickTag> {
+fn granted(client: u32, token: u32, cost: Cost, phase: PhaseType) -> Event<TickTag> {
     let reply = Reply::Granted {
         client: ClientId(client),
         token: Token(token),
         phase,
+        cost,
         beyond: false,
     };
     answered(Command::Pull { at: Moment::zero() }, reply)
@@ -91,14 +98,15 @@ fn is_kept(history: &mut EventHistory<TickTag>, event: Event<TickTag>) -> Result
 /// Puts the events of a client with a reservation, of one without, and of one with a limit into the history, one after the
 /// other.
 fn fill(rt: &impl Abort, history: &mut EventHistory<TickTag>) -> Result<(), Fail> {
+    let (four, most) = (Cost::new(4)?, Cost::new(u32::MAX)?);
     let nothing = answered(Command::Pull { at: Moment::zero() }, Reply::Nothing);
     for event in [
         registered(1, Some(10), None)?,
         registered(2, None, None)?,
-        queued(1, 11, true)?,
-        queued(2, 21, false)?,
-        granted(1, 11, PhaseType::Reservation),
-        granted(2, 21, PhaseType::Priority),
+        queued(1, 11, four, true)?,
+        queued(2, 21, most, false)?,
+        granted(1, 11, four, PhaseType::Reservation),
+        granted(2, 21, most, PhaseType::Priority),
         nothing,
         registered(3, None, Some(10))?,
         queued_ahead(31)?,

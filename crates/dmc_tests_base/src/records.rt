@@ -2,11 +2,12 @@
 use crate::same::assert_same;
 use dmc_assign::assignment::tags_for;
 use dmc_client::record::ClientRec;
-use dmc_tag::plain::QueuedRequest;
+use dmc_tag::plain::{QueuedRequest, Slack};
 use dmc_tag::reply::Tags;
 use dmc_tag::spacing::spacings_for;
 use dmc_tag::tag::Tag;
 use dmc_tick::tick::TickTag;
+use dmc_types::cost::Cost;
 use dmc_types::ids::Token;
 use dmc_types::info::ClientInfo;
 use dmc_types::moment::Moment;
@@ -22,14 +23,21 @@ fn record_at_greatest(alloc: Global) -> Result<ClientRec<TickTag>, Fail> {
     let spacings = spacings_for::<TickTag>(1000, info)
         .ok()
         .ok_or("no spacing")?;
-    let tags = Tags {
-        r: None,
-        l: TickTag::new(0).ok_or("no tag")?,
-        p: TickTag::new(GREATEST).ok_or("no tag")?,
-    };
+    let zero = TickTag::of_moment(Moment::zero());
+    let p = TickTag::new(GREATEST).ok_or("no tag")?;
     let request = QueuedRequest {
         token: Token(1),
-        tags,
+        cost: Cost::ONE,
+        tags: Tags {
+            r: None,
+            l: zero,
+            p,
+        },
+        slack: Slack {
+            r: zero,
+            l: zero,
+            p,
+        },
     };
     let mut rec = ClientRec::new(alloc, info, spacings, Moment::zero());
     rec.push(request, Moment::zero())?;

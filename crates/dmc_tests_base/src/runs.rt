@@ -10,6 +10,7 @@ use dmc_tag::scheduler::Scheduler;
 use dmc_tick::tick::TickTag;
 use dmc_types::command::Command;
 use dmc_types::config::{AtLimit, PhaseType, QueueConfig};
+use dmc_types::cost::Cost;
 use dmc_types::ids::{ClientId, Token};
 use dmc_types::info::ClientInfo;
 use dmc_types::moment::Moment;
@@ -75,6 +76,7 @@ fn expected() -> Result<[Reply<TickTag>; 5], Fail> {
             client: CLIENT,
             token: TOKEN,
             phase: PhaseType::Priority,
+            cost: Cost::ONE,
             beyond: false,
         },
         Reply::Nothing,

@@ -4,6 +4,7 @@ use dmc_scene::fault::SceneFault;
 use dmc_scene::key::Key;
 use dmc_scene::scene::{Scene, read_scene};
 use dmc_types::config::{AtLimit, Counting, QueueConfig, Shares, TagKind};
+use dmc_types::cost::Cost;
 use dmc_types::ids::ClientId;
 use dmc_types::info::ClientInfo;
 use std::alloc::{AllocError, Global};
@@ -179,7 +180,7 @@ fn scene_faults(rt: HostRuntime) -> Result<(), Fail> {
 }
 
 /// Changes of the scene, each with the fault that it makes.
-const CHANGES: [(&str, &str, SceneFault); 13] = [
+const CHANGES: [(&str, &str, SceneFault); 14] = [
     ("hz = 1000\n", "", SceneFault::Missing(Key::Hz)),
     ("hz = 1000", "hz = \"1000\"", SceneFault::Kind(Key::Hz)),
     ("hz = 1000", "hz = -1", SceneFault::Value(Key::Hz)),
@@ -221,6 +222,11 @@ const CHANGES: [(&str, &str, SceneFault); 13] = [
         "window = 1025",
         SceneFault::Value(Key::Window),
     ),
+    (
+        "window = 1",
+        "window = 0\ncosts = 1",
+        SceneFault::Value(Key::Window),
+    ),
 ];
 
 /// The scene in ratios, with thirds.
@@ -244,6 +250,62 @@ fn changed_scenes(rt: HostRuntime) -> Result<(), Fail> {
     assert_same(&rt, &scene.config().shares(), &Shares::Virtual);
     let info = ClientInfo::new(Some(10), 3, Some(20))?;
     assert_same(&rt, &scene.clients()[0].info(), &info);
+    Ok(())
+}
+
+const SIXTEEN: &str = "[1, 2, 3, 4, 5, 6, 7, 8, 9, 10, 11, 12, 13, 14, 15, 16]";
+
+const SEVENTEEN: &str = "[1, 2, 3, 4, 5, 6, 7, 8, 9, 10, 11, 12, 13, 14, 15, 16, 17]";
+
+const SEVENTEEN_AND_A_TEXT: &str =
+    "[1, 2, 3, 4, 5, 6, 7, 8, 9, 10, 11, 12, 13, 14, 15, 16, \"17\"]";
+
+/// The costs of the first client, and the fault that they make.
+const COSTS: [(&str, Option<SceneFault>); 15] = [
+    ("[1]", None),
+    ("[1024, 1]", None),
+    (SIXTEEN, None),
+    (SEVENTEEN, Some(SceneFault::Value(Key::Costs))),
+    ("[]", Some(SceneFault::Value(Key::Costs))),
+    ("[0]", Some(SceneFault::Value(Key::Costs))),
+    ("[-1]", Some(SceneFault::Value(Key::Costs))),
+    ("[1024, 1025]", Some(SceneFault::Value(Key::Costs))),
+    ("1", Some(SceneFault::Kind(Key::Costs))),
+    ("\"1\"", Some(SceneFault::Kind(Key::Costs))),
+    ("[1, \"2\"]", Some(SceneFault::Kind(Key::Costs))),
+    ("[1, 2.0]", Some(SceneFault::Kind(Key::Costs))),
+    ("[[1]]", Some(SceneFault::Kind(Key::Costs))),
+    ("[0, \"2\"]", Some(SceneFault::Kind(Key::Costs))),
+    (SEVENTEEN_AND_A_TEXT, Some(SceneFault::Kind(Key::Costs))),
+];
+
+#[test]
+fn costs(rt: HostRuntime) -> Result<(), Fail> {
+    for (costs, fault) in COSTS {
+        let with_costs = format!(in rt.alloc(); "window = 1\ncosts = {costs}")?;
+        assert_changed(&rt, rt.alloc(), "window = 1", &with_costs, fault)?;
+    }
+    Ok(())
+}
+
+#[test]
+fn costs_in_turn(rt: HostRuntime) -> Result<(), Fail> {
+    let text = changed(
+        rt.alloc(),
+        TWO_CLIENTS,
+        "window = 1",
+        "window = 1\ncosts = [5, 1, 1024]",
+    )?;
+    let scene = read_scene(rt.alloc(), text.as_bytes())?;
+    assert_eq!(rt; scene.clients().len(), 2);
+    let first = scene.clients()[0];
+    let costs = [0, 1, 2, 3, 4, u32::MAX].map(|number| first.cost(number).units());
+    // u32::MAX is a multiple of 3
+    assert_same(&rt, &costs, &[5, 1, 1024, 5, 1, 5]);
+    assert!(rt; first.has_costs());
+    let second = scene.clients()[1];
+    assert!(rt; !second.has_costs());
+    assert_same(&rt, &second.cost(1), &Cost::ONE);
     Ok(())
 }
 

@@ -3,22 +3,42 @@ use crate::same::assert_same;
 use dmc_tracker::event::TrackerEvent;
 use dmc_tracker::tracker::{MakeFault, ServiceTracker, TrackFault, is_too_much};
 use dmc_types::config::{Counting, PhaseType};
+use dmc_types::cost::Cost;
 use dmc_types::ids::ServerId;
 use dmc_types::limits::{MAX_COMPLETIONS, MAX_COUNT};
 use std::test::Fail;
 
-const ZERO: ServerId = ServerId(0);
+pub const ZERO: ServerId = ServerId(0);
 
-const ONE: ServerId = ServerId(1);
+pub const ONE: ServerId = ServerId(1);
 
-// An entry of a tracker's list takes 16 bytes, whatever it is.
-const _: () = prove!(size_of::<TrackerEvent>() == 16);
+// An entry of a tracker's list takes 20 bytes, whatever it is.
+const _: () = prove!(size_of::<TrackerEvent>() == 20);
 
 // Helpers with no contract: they are tested by running them, and a test that calls them takes little to prove.
 
-fn stamp(tracker: &mut ServiceTracker, server: ServerId) -> Result<(u32, u32), TrackFault> {
-    let params = tracker.get_req_params(server)?;
+/// The delta and the rho of a stamp of this cost.
+pub fn stamp_of_cost(
+    tracker: &mut ServiceTracker,
+    server: ServerId,
+    cost: Cost,
+) -> Result<(u32, u32), TrackFault> {
+    let params = tracker.get_req_params(server, cost)?;
     Ok((params.delta(), params.rho()))
+}
+
+/// A response of this cost.
+pub fn respond_of_cost(
+    tracker: &mut ServiceTracker,
+    server: ServerId,
+    phase: PhaseType,
+    cost: Cost,
+) -> Result<(), TrackFault> {
+    tracker.track_resp(server, phase, cost)
+}
+
+fn stamp(tracker: &mut ServiceTracker, server: ServerId) -> Result<(u32, u32), TrackFault> {
+    stamp_of_cost(tracker, server, Cost::ONE)
 }
 
 fn respond(
@@ -26,7 +46,7 @@ fn respond(
     server: ServerId,
     phase: PhaseType,
 ) -> Result<(), TrackFault> {
-    tracker.track_resp(server, phase)
+    respond_of_cost(tracker, server, phase, Cost::ONE)
 }
 
 fn skip(tracker: &mut ServiceTracker, server: ServerId) -> Result<(), TrackFault> {
@@ -35,7 +55,7 @@ fn skip(tracker: &mut ServiceTracker, server: ServerId) -> Result<(), TrackFault
 
 /// A tracker's counts of a server: what it sent, what was skipped, what is pending, and whether it may stamp and respond.
 #[derive(Clone, Copy, Debug, PartialEq, Eq)]
-struct ServerStatus {
+pub struct ServerStatus {
     sent: Option<(u64, u64)>,
     skipped: Option<(u64, u64)>,
     pending: Option<(u64, u64)>,
@@ -43,18 +63,19 @@ struct ServerStatus {
     response: Result<(), TrackFault>,
 }
 
-fn status(tracker: &ServiceTracker, server: ServerId) -> ServerStatus {
+/// What a tracker shows of a server, for a request of cost 1.
+pub fn status(tracker: &ServiceTracker, server: ServerId) -> ServerStatus {
     ServerStatus {
         sent: tracker.sent(server),
         skipped: tracker.skipped(server),
         pending: tracker.pending(server),
-        stamp: tracker.can_stamp(server),
-        response: tracker.can_respond(server),
+        stamp: tracker.can_stamp(server, Cost::ONE),
+        response: tracker.can_respond(server, Cost::ONE),
     }
 }
 
 /// A tracker's counts of a server that may be stamped, and may respond, if nothing was skipped.
-fn free(sent: (u64, u64), pending: (u64, u64)) -> ServerStatus {
+pub fn free(sent: (u64, u64), pending: (u64, u64)) -> ServerStatus {
     free_after_skip(sent, (0, 0), pending)
 }
 
@@ -69,18 +90,21 @@ fn free_after_skip(sent: (u64, u64), skipped: (u64, u64), pending: (u64, u64)) -
     }
 }
 
-// Stamp 0, response 0 reservation, stamp 1, response 1 priority, stamp 0.
-fn three_stamps(tracker: &mut ServiceTracker) -> Result<[(u32, u32); 3], TrackFault> {
-    let first = stamp(tracker, ZERO)?;
-    respond(tracker, ZERO, PhaseType::Reservation)?;
-    let second = stamp(tracker, ONE)?;
-    respond(tracker, ONE, PhaseType::Priority)?;
-    let third = stamp(tracker, ZERO)?;
+/// Stamp 0, response 0 reservation, stamp 1, response 1 priority, stamp 0, of requests of these costs.
+pub fn three_stamps(
+    tracker: &mut ServiceTracker,
+    costs: [Cost; 3],
+) -> Result<[(u32, u32); 3], TrackFault> {
+    let first = stamp_of_cost(tracker, ZERO, costs[0])?;
+    respond_of_cost(tracker, ZERO, PhaseType::Reservation, costs[0])?;
+    let second = stamp_of_cost(tracker, ONE, costs[1])?;
+    respond_of_cost(tracker, ONE, PhaseType::Priority, costs[1])?;
+    let third = stamp_of_cost(tracker, ZERO, costs[2])?;
     Ok([first, second, third])
 }
 
 /// What a tracker was made with, and how many responses it counted.
-fn made_with(tracker: &ServiceTracker) -> (u32, u64, Counting, (u64, u64)) {
+pub fn made_with(tracker: &ServiceTracker) -> (u32, u64, Counting, (u64, u64)) {
     (
         tracker.servers(),
         tracker.most(),
@@ -92,7 +116,8 @@ fn made_with(tracker: &ServiceTracker) -> (u32, u64, Counting, (u64, u64)) {
 #[test]
 fn two_server_tracker(rt: HostRuntime) -> Result<(), Fail> {
     let mut tracker = ServiceTracker::new(rt.alloc(), 2, 10, Counting::All)?;
-    assert_same(&rt, &three_stamps(&mut tracker)?, &[(0, 0), (1, 1), (2, 1)]);
+    let stamps = three_stamps(&mut tracker, [Cost::ONE; 3])?;
+    assert_same(&rt, &stamps, &[(0, 0), (1, 1), (2, 1)]);
     assert_same(&rt, &status(&tracker, ZERO), &free((2, 1), (0, 0)));
     assert_same(&rt, &status(&tracker, ONE), &free((1, 1), (1, 0)));
     assert_same(&rt, &made_with(&tracker), &(2, 10, Counting::All, (2, 1)));
@@ -102,7 +127,8 @@ fn two_server_tracker(rt: HostRuntime) -> Result<(), Fail> {
 #[test]
 fn others_tracker(rt: HostRuntime) -> Result<(), Fail> {
     let mut tracker = ServiceTracker::new(rt.alloc(), 2, 10, Counting::Others)?;
-    assert_same(&rt, &three_stamps(&mut tracker)?, &[(1, 1), (2, 2), (2, 1)]);
+    let stamps = three_stamps(&mut tracker, [Cost::ONE; 3])?;
+    assert_same(&rt, &stamps, &[(1, 1), (2, 2), (2, 1)]);
     assert_same(&rt, &status(&tracker, ZERO), &free((3, 2), (0, 0)));
     assert_same(&rt, &status(&tracker, ONE), &free((2, 2), (0, 0)));
     assert_same(

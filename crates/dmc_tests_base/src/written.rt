@@ -9,11 +9,13 @@ use dmc_text::tag::TagText;
 use dmc_text::write_line::{write_command, write_config, write_event, write_header};
 use dmc_tick::tick::TickTag;
 use dmc_types::command::Command;
-use dmc_types::config::{AtLimit, PhaseType, QueueConfig, Shares};
+use dmc_types::config::{AtLimit, Counting, PhaseType, QueueConfig, Shares};
+use dmc_types::cost::Cost;
 use dmc_types::ids::{ClientId, ServerId, Token, WorkerId};
 use dmc_types::info::ClientInfo;
 use dmc_types::moment::Moment;
 use dmc_types::params::ReqParams;
+use dmc_types::refusal::Refusal;
 use std::process::Abort;
 use std::test::Fail;
 
@@ -52,9 +54,41 @@ fn commands_written(rt: HostRuntime) -> Result<(), Fail> {
         at,
     };
     is_written(&rt, add, b"add 4294967295 0 3 2 4611686018427387904")?;
+    let add_of_cost = Command::Add {
+        client,
+        token: Token(0),
+        params: params.with_cost(Cost::new(u32::MAX)?),
+        at,
+    };
+    is_written(
+        &rt,
+        add_of_cost,
+        b"add 4294967295 0 3 2 4611686018427387904 cost 4294967295",
+    )?;
     is_written(&rt, Command::Pull { at }, b"pull 4611686018427387904")?;
     is_written(&rt, Command::Remove { client }, b"drop 4294967295")?;
     is_written(&rt, Command::Clean { at }, b"clean 4611686018427387904")
+}
+
+/// A cancel of the greatest token of client 1.
+fn cancel(counting: Counting) -> Command {
+    Command::Cancel {
+        client: ClientId(1),
+        token: Token(u32::MAX),
+        counting,
+    }
+}
+
+#[test]
+fn cancels_written(rt: HostRuntime) -> Result<(), Fail> {
+    is_written(&rt, cancel(Counting::All), b"cancel 1 4294967295 all")?;
+    is_written(&rt, cancel(Counting::Others), b"cancel 1 4294967295 others")?;
+    is_event(
+        &rt,
+        cancel(Counting::Others),
+        Reply::Removed(2),
+        b"7 cancel 1 4294967295 others = dropped 2",
+    )
 }
 
 /// A configuration has this line, which is read as the configuration.
@@ -148,6 +182,17 @@ fn is_event<R: AllocGlobal + Abort>(
     Ok(())
 }
 
+/// The grant of token 11 of client 1, beyond its limit.
+fn granted(cost: Cost) -> Reply<TickTag> {
+    Reply::Granted {
+        client: ClientId(1),
+        token: Token(11),
+        phase: PhaseType::Priority,
+        cost,
+        beyond: true,
+    }
+}
+
 #[test]
 fn events_written(rt: HostRuntime) -> Result<(), Fail> {
     let at = Moment::new(5)?;
@@ -165,15 +210,30 @@ fn events_written(rt: HostRuntime) -> Result<(), Fail> {
         p: tag,
     });
     is_event(&rt, add, tags, b"7 add 1 11 3 2 5 = tags - -1000 -1000")?;
-    let granted = Reply::Granted {
-        client,
-        token: Token(11),
-        phase: PhaseType::Priority,
-        beyond: true,
-    };
     let pull = Command::Pull { at };
+    let granted = granted(Cost::ONE);
     is_event(&rt, pull, granted, b"7 pull 5 = grant 1 11 priority beyond")?;
     is_event(&rt, pull, Reply::Later(50), b"7 pull 5 = future 50")
+}
+
+#[test]
+fn costs_written(rt: HostRuntime) -> Result<(), Fail> {
+    let at = Moment::new(5)?;
+    let cost = Cost::new(4)?;
+    let add = Command::Add {
+        client: ClientId(1),
+        token: Token(11),
+        params: ReqParams::new(3, 2)?.with_cost(cost),
+        at,
+    };
+    let full = Reply::Refused(Refusal::QueueFull);
+    is_event(&rt, add, full, b"7 add 1 11 3 2 5 cost 4 = refused full")?;
+    is_event(
+        &rt,
+        Command::Pull { at },
+        granted(cost),
+        b"7 pull 5 = grant 1 11 priority beyond cost 4",
+    )
 }
 
 #[test]

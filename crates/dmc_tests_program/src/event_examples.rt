@@ -73,8 +73,23 @@ fn beyond_not_recorded(rt: HostRuntime) -> Result<(), Fail> {
     )
 }
 
+// A grant has the cost of its request.
+#[test]
+fn costs_recorded(rt: HostRuntime) -> Result<(), Fail> {
+    for (grant, verdict, status) in [
+        ("grant 1 11 priority cost 4", b"replays 3\n", 0),
+        ("grant 1 11 priority", b"differs 2\n", 3),
+    ] {
+        let input = format!(in rt.alloc();
+            "hz 1000; 1 client 1 - 1 - 0 = ok; 1 add 1 11 0 0 0 cost 4 = tags - 0 0; 2 pull 0 = {grant}"
+        )?;
+        checks(&rt, "tick", &input, verdict, status)?;
+    }
+    Ok(())
+}
+
 /// Event texts, each with its fault.
-const FAULTS: [(&str, &[u8]); 5] = [
+const FAULTS: [(&str, &[u8]); 6] = [
     ("", b"dmclock: line 1 hz\n"),
     ("1 pull 0 = none", b"dmclock: line 1 hz\n"),
     (
@@ -83,6 +98,10 @@ const FAULTS: [(&str, &[u8]); 5] = [
     ),
     ("hz 1000; one pull 01 = grant 1", b"dmclock: line 2 words\n"),
     ("hz 1000; one pull 0 = none", b"dmclock: line 2 number\n"),
+    (
+        "hz 1000; 1 add 1 1 0 0 0 cost 0 = ok",
+        b"dmclock: line 2 number\n",
+    ),
 ];
 
 // A fault after the first difference is reported, and words are checked to the end of a line before its numbers.

@@ -46,6 +46,27 @@ fn three_servers_others(rt: HostRuntime) -> Result<(), Fail> {
     )
 }
 
+/// What each run of a scene with costs writes. Of client 1's ten requests four cost 1, three 2 and three 3.
+const COSTS_DONE: &str =
+    "client 1 sent 10 completed 10 failed 0 units 0 cost 19; client 2 sent 7 completed 7 failed 0 units 0 cost 7; \
+                          server 0 left 0 units 0 replays; server 1 left 0 units 0 replays; total sent 17 completed 17";
+
+#[test]
+fn run_with_costs(rt: HostRuntime) -> Result<(), Fail> {
+    let report = lines(rt.alloc(), COSTS_DONE)?;
+    for (tags, counting) in [("tick", "all"), ("ratio", "others")] {
+        let text = format!(in rt.alloc();
+            "hz = 1000; servers = 2; workers = 2; step = 1; seed = 7; max_pulls = 1000000; tags = \"{tags}\"; \
+             counting = \"{counting}\"; \
+             [[client]]; id = 1; reservation = 10; weight = 1; requests = 10; window = 4; costs = [1, 2, 3]; \
+             [[client]]; id = 2; weight = 1; requests = 7; window = 2"
+        )?;
+        let scene = lines(rt.alloc(), &text)?;
+        runs(&rt, ["run"].as_slice(), &scene, &report, b"", 0)?;
+    }
+    Ok(())
+}
+
 /// Whether the text has these bytes somewhere.
 fn has(text: &[u8], bytes: &[u8]) -> bool {
     (0..text.len()).any(|start| text[start..].starts_with(bytes))

@@ -70,6 +70,37 @@ fn sim_turns_out(rt: HostRuntime) -> Result<(), Fail> {
     )
 }
 
+/// Clients of which the first has costs.
+const COSTLY: &str = "[[client]]; id = 1; weight = 1; requests = 3; window = 1; costs = [5, 2]; \
+                      [[client]]; id = 2; weight = 1; requests = 1; window = 1";
+
+#[test]
+fn sim_with_costs(rt: HostRuntime) -> Result<(), Fail> {
+    let keys = "tags = \"tick\"; servers = 1; step = 50; max_pulls = 100";
+    ends(
+        &rt,
+        &scene(rt.alloc(), keys, COSTLY)?,
+        "client 1 sent 3 completed 3 reservation 0 priority 3 cost 12; \
+         client 2 sent 1 completed 1 reservation 0 priority 1 cost 1; server 0 reservation 0 priority 4 left 0; end 150",
+        b"",
+        0,
+    )
+}
+
+// What is sent and not completed does not count. Client 1's second request has a P of 5000, client 2's first a P of 0.
+#[test]
+fn costs_of_the_completed(rt: HostRuntime) -> Result<(), Fail> {
+    let keys = "tags = \"tick\"; servers = 1; step = 50; max_pulls = 2";
+    ends(
+        &rt,
+        &scene(rt.alloc(), keys, COSTLY)?,
+        "client 1 sent 2 completed 1 reservation 0 priority 1 cost 5; \
+         client 2 sent 1 completed 1 reservation 0 priority 1 cost 1; server 0 reservation 0 priority 2 left 1; end 50",
+        b"dmclock: turns out\n",
+        4,
+    )
+}
+
 // The test for all completions comes before the count of rounds.
 #[test]
 fn sim_in_time(rt: HostRuntime) -> Result<(), Fail> {

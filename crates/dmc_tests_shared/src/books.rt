@@ -22,6 +22,7 @@ use dmc_tlock::fault::TillFault;
 use dmc_tlock::pass::ClientPass;
 use dmc_tlock::status::TrackStatus;
 use dmc_types::config::PhaseType;
+use dmc_types::cost::Cost;
 use dmc_types::ids::Token;
 use dmc_types::moment::Moment;
 use std::alloc::Global;
@@ -50,6 +51,7 @@ fn circle_observed() -> Observed {
         tokens: 9,
         grants: 0,
         granted: 0,
+        cost: 0,
         clients: 1,
         requests: 1,
         events: 2,
@@ -68,12 +70,14 @@ fn circle_observed() -> Observed {
             client: ONE,
             token: Token(9),
             phase: PhaseType::Priority,
+            cost: Cost::ONE,
             beyond: false,
         },
         pulled: Status {
             calls: 3,
             grants: 1,
             granted: 9,
+            cost: 1,
             requests: 0,
             events: 3,
             ..submitted
@@ -104,7 +108,7 @@ fn circle_in_hand<I: Indexes<TickTag>, S: Setup>(
     let submitted = status(book, pass)?;
     let granted = pull(book, pass)?;
     let pulled = status(book, pass)?;
-    respond(pass, tracker, ZERO, ONE, PhaseType::Priority)?;
+    respond(pass, tracker)?;
     let next = carried(&stamp(tracker, ZERO, tills)?);
     let tracked = tracker_status(tracker, tills)?;
     Ok(Observed {

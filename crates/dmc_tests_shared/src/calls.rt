@@ -10,16 +10,16 @@ use dmc_book::fault::{RunFault, SubmitCause};
 use dmc_book::pass::WorkerPass;
 use dmc_book::status::Status;
 use dmc_index::index::Indexes;
-use dmc_ledger::bundle::StampTills;
+use dmc_ledger::bundle::{PhaseTills, StampTills};
 use dmc_ledger::setup::Setup;
 use dmc_ledger::stamp::Stamp;
-use dmc_ledger::till::Till;
+use dmc_ledger::unit::Unit;
 use dmc_tag::reply::{Reply, Tags};
 use dmc_tick::tick::TickTag;
 use dmc_tlock::book::TrackerBook;
 use dmc_tlock::fault::EntryFault;
 use dmc_types::command::Command;
-use dmc_types::config::PhaseType;
+use dmc_types::cost::Cost;
 use dmc_types::ids::{ClientId, ServerId, Token};
 use dmc_types::info::ClientInfo;
 use dmc_types::moment::Moment;
@@ -95,7 +95,19 @@ pub(crate) fn carried(stamp: &Stamp) -> (u32, u32) {
     (params.delta(), params.rho())
 }
 
-/// A stamp of the tracker, which the tills cover.
+/// A stamp of this cost of the tracker, which the tills cover.
+pub(crate) fn stamp_of_cost<S: Setup>(
+    tracker: &mut TrackerBook<S>,
+    server: ServerId,
+    cost: Cost,
+    tills: &mut StampTills<S>,
+) -> Result<Stamp, EntryFault>
+    ensures { IfOk result (λ stamp. Covers (stamp_holdings tills.new) stamp.params) }
+{
+    tracker.stamp(server, cost, tills)
+}
+
+/// A stamp of cost 1.
 pub(crate) fn stamp<S: Setup>(
     tracker: &mut TrackerBook<S>,
     server: ServerId,
@@ -103,14 +115,14 @@ pub(crate) fn stamp<S: Setup>(
 ) -> Result<Stamp, EntryFault>
     ensures { IfOk result (λ stamp. Covers (stamp_holdings tills.new) stamp.params) }
 {
-    tracker.stamp(server, tills)
+    stamp_of_cost(tracker, server, Cost::ONE, tills)
 }
 
 /// The tags of a request, or whose stamp comes back, and the cause.
 pub(crate) type Answer = Result<Tags<TickTag>, (ClientId, SubmitCause)>;
 
 /// Submits a stamped request at moment 0.
-fn submit_stamped<I: Indexes<TickTag>, S: Setup>(
+pub(crate) fn submit_stamped<I: Indexes<TickTag>, S: Setup>(
     book: &mut QueueBook<TickTag, I, S>,
     pass: &mut WorkerPass<S>,
     tills: &mut StampTills<S>,
@@ -162,30 +174,46 @@ pub(crate) fn submit<I: Indexes<TickTag>, S: Setup>(
     }
 }
 
-/// Responds with a unit of the till.
-fn give_back<S: Setup>(
-    tracker: &mut TrackerBook<S>,
-    server: ServerId,
-    phase: PhaseType,
-    till: &mut Till<S>,
-) -> Result<(), Fail> {
-    if till.amount() == 0 {
-        return Err(Fail::new("a unit of the grant"));
+/// Takes the unit of the last grant that was pulled with the pass.
+pub(crate) fn take_unit<S: Setup>(pass: &mut WorkerPass<S>) -> Result<Unit, Fail> {
+    match pass.take_unit() {
+        Some(unit) => Ok(unit),
+        None => Err(Fail::new("the unit of a grant")),
     }
-    tracker.respond(server, phase, till)?;
-    Ok(())
 }
 
-/// Responds with a unit that the pass has of a client's grants.
+/// Responds to the grant of a unit, which the tills hold.
+fn give_back<S: Setup>(
+    tracker: &mut TrackerBook<S>,
+    unit: Unit,
+    tills: &mut PhaseTills<S>,
+) -> Result<(), Fail> {
+    if !tills.holds(unit.cost()) {
+        return Err(Fail::new("a grant of this cost"));
+    }
+    match tracker.respond(unit, tills) {
+        Ok(()) => Ok(()),
+        Err(fault) => Err(fault.cause.into()),
+    }
+}
+
+/// Responds to the grant of a unit, which was pulled with the pass.
+pub(crate) fn respond_with<S: Setup>(
+    pass: &mut WorkerPass<S>,
+    tracker: &mut TrackerBook<S>,
+    unit: Unit,
+) -> Result<(), Fail> {
+    match pass.grant_tills(unit.client(), unit.phase()) {
+        Some(tills) => give_back(tracker, unit, tills),
+        None => Err(Fail::new("tills of the client")),
+    }
+}
+
+/// Responds to the last grant that was pulled with the pass.
 pub(crate) fn respond<S: Setup>(
     pass: &mut WorkerPass<S>,
     tracker: &mut TrackerBook<S>,
-    server: ServerId,
-    client: ClientId,
-    phase: PhaseType,
 ) -> Result<(), Fail> {
-    match pass.grant_till(client, phase) {
-        Some(till) => give_back(tracker, server, phase, till),
-        None => Err(Fail::new("a till of the client")),
-    }
+    let unit = take_unit(pass)?;
+    respond_with(pass, tracker, unit)
 }

@@ -1,20 +1,20 @@
 //! Books that grow, with each allocation refused in turn: a call that reports an allocation failure leaves book and pass as they
 //! were, and works when it is made again.
 ghost use Rattle.std.specs.Prelude.{◌≡◌, IfErr, IfOk};
-ghost use Rattle.dmc_ledger.specs.Bundles.{Covers, stamp_holdings};
+ghost use Rattle.dmc_ledger.specs.Bundles.{Covers, HoldsGrant, phase_holdings, stamp_holdings};
 
-use crate::calls::{enroll, pull, stamp, status};
+use crate::calls::{enroll, pull, stamp, status, take_unit};
 use crate::opening::{Book, ONE, Opened, ZERO, drop_opened, open_desks, open_seven};
 use crate::same::assert_same;
-use crate::tracker_calls::TrackerCalls;
 use crate::tracker_setup::open_tracker_of;
 use dmc_book::fault::{NewFault, RunFault, SubmitCause, SubmitFault};
 use dmc_book::pass::WorkerPass;
 use dmc_book::status::Status;
-use dmc_ledger::bundle::StampTills;
+use dmc_ledger::bundle::{PhaseTills, StampTills};
 use dmc_ledger::mint::{Blank, Mint};
 use dmc_ledger::setup::Setup;
 use dmc_ledger::stamp::Stamp;
+use dmc_ledger::unit::Unit;
 use dmc_tag::reply::Reply;
 use dmc_tick::tick::TickTag;
 use dmc_tlock::book::TrackerBook;
@@ -124,29 +124,40 @@ fn pull_again<S: Setup>(
     Ok(pull(book, pass)?)
 }
 
-/// Counts a completion of client 1, whose unit is in the pass.
-fn respond_once<S: Setup>(
+/// Counts a completion. If that is refused for memory, the unit comes back and the tills are as they were, and it is counted
+/// again.
+fn respond_to<S: Setup>(
     tracker: &mut TrackerBook<S>,
-    pass: &mut WorkerPass<S>,
-) -> Result<Result<(), EntryFault>, Fail> {
-    let Some(till) = pass.grant_till(ONE, PhaseType::Priority) else {
-        return Err(Fail::new("a till of the client"));
+    unit: Unit,
+    tills: &mut PhaseTills<S>,
+    failed: &mut bool,
+) -> Result<(), Fail>
+    requires { HoldsGrant (phase_holdings tills.old) unit.cost }
+{
+    let Err(fault) = tracker.respond(unit, tills) else {
+        return Ok(());
     };
-    Ok(tracker.try_respond(ZERO, till))
+    if fault.cause != EntryFault::Memory {
+        return Err(fault.cause.into());
+    }
+    *failed = true;
+    match tracker.respond(fault.unit, tills) {
+        Ok(()) => Ok(()),
+        Err(fault) => Err(fault.cause.into()),
+    }
 }
 
-/// Counts a completion. If that is refused for memory, the unit is still in the pass, and it is counted again.
+/// Counts the completion of client 1's last grant.
 fn respond_again<S: Setup>(
     tracker: &mut TrackerBook<S>,
     pass: &mut WorkerPass<S>,
     failed: &mut bool,
 ) -> Result<(), Fail> {
-    match respond_once(tracker, pass)? {
-        Ok(()) => return Ok(()),
-        Err(EntryFault::Memory) => *failed = true,
-        Err(fault) => return Err(fault.into()),
+    let unit = take_unit(pass)?;
+    match pass.grant_tills(ONE, PhaseType::Priority) {
+        Some(tills) if tills.holds(unit.cost()) => respond_to(tracker, unit, tills, failed),
+        _ => Err(Fail::new("a grant of the client")),
     }
-    Ok(respond_once(tracker, pass)??)
 }
 
 /// One request, from its stamp to its response.

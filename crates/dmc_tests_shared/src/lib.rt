@@ -9,6 +9,8 @@ mod calls;
 #[cfg(test)]
 mod clusters;
 #[cfg(test)]
+mod costs;
+#[cfg(test)]
 mod growths;
 #[cfg(test)]
 mod opening;

@@ -205,7 +205,7 @@ fn full_closed_stranger(rt: HostRuntime) -> Result<(), Fail> {
         stranger: Some(RunFault::Stranger),
         numbers: (2, 2, 1),
     };
-    let answer = full::<Brand>(rt.alloc(), Blank::new(24))?;
+    let answer = full::<Brand>(rt.alloc(), Blank::new(28))?;
     assert_same(&rt, &answer, &answers);
     let answer = closed::<Brand>(rt.alloc(), Blank::new(14))?;
     assert_same(&rt, &answer, &(ONE, SubmitCause::Closed, true));

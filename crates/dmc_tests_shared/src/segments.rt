@@ -92,7 +92,7 @@ fn rotate_twice<S: Setup>(alloc: Global, blank: Blank) -> Result<Rotated, Fail>
 
 #[test]
 fn segments_follow(rt: HostRuntime) -> Result<(), Fail> {
-    let rotated = rotate_twice::<Brand>(rt.alloc(), Blank::new(22))?;
+    let rotated = rotate_twice::<Brand>(rt.alloc(), Blank::new(28))?;
     let expected = Rotated {
         full: Some(RunFault::HistoryFull),
         shapes: [(0, 2), (2, 1), (3, 0)],

@@ -1,12 +1,13 @@
 ghost use Rattle.std.specs.Prelude.{◌≡◌, IsTrue};
-ghost use Rattle.dmc_ledger.specs.Bundles.{IsOnlyTill, IsPair, client_side, server_side};
+ghost use Rattle.dmc_ledger.specs.Bundles.{AreOnlyTills, IsOnlyTill, IsPair, client_side, phase_accounts, phase_holdings, server_side};
 
 use crate::books::play;
 use crate::opening::{Book, Opened, drop_book, drop_opened, only, open, open_other, open_queue};
 use dmc_book::pass::WorkerPass;
 use dmc_book::seat::Seat;
-use dmc_book::settled::Settled;
+use dmc_book::settled::{Amounts, Settled};
 use dmc_ledger::book::Book as LedgerBook;
+use dmc_ledger::bundle::{PhaseBooks, PhaseTills};
 use dmc_ledger::desk::{ClientDesk, ServerDesk, close_pair};
 use dmc_ledger::mint::Blank;
 use dmc_ledger::setup::Setup;
@@ -19,20 +20,23 @@ use std::alloc::Global;
 use std::marker::Brand;
 use std::test::Fail;
 
-/// What a queue's book leaves: the requests queued, the worker's numbers, and the units left of the client's grants.
+/// What a queue's book leaves: the requests queued, the worker's numbers, what the worker's grants cost, and what is left of the
+/// client's grants.
 #[derive(Clone, Copy, Debug, PartialEq, Eq)]
-struct QueueLeft {
-    requests: u32,
-    numbers: (u64, u64, u64, u64, u64),
-    units: u64,
+pub(crate) struct QueueLeft {
+    pub(crate) requests: u32,
+    pub(crate) numbers: (u64, u64, u64, u64, u64),
+    pub(crate) cost: u64,
+    pub(crate) units: Amounts,
 }
 
-/// What both books of a pair leave: the stamps left in the client's pass, and, once the pair is closed, its stamps and grants.
+/// What both books of a pair leave: the stamps left in the client's pass, and, once the pair is closed, its stamps, its grants and
+/// what they cost.
 #[derive(Clone, Copy, Debug, PartialEq, Eq)]
-struct Left {
-    queue: QueueLeft,
-    stamps: u64,
-    closed: (u64, u64),
+pub(crate) struct Left {
+    pub(crate) queue: QueueLeft,
+    pub(crate) stamps: u64,
+    pub(crate) closed: (u64, u64, u64),
 }
 
 fn numbers<S: Setup>(seat: &Seat<S>) -> (u64, u64, u64, u64, u64) {
@@ -55,6 +59,7 @@ fn read_left<S: Setup>(settled: &Settled<TickTag, S>) -> Result<QueueLeft, Fail>
     Ok(QueueLeft {
         requests: settled.left,
         numbers: numbers(seat),
+        cost: seat.cost(),
         units: held.priority,
     })
 }
@@ -120,23 +125,34 @@ fn is_only<S: Setup>(book: &LedgerBook<S>, till: &Till<S>) -> bool
     till.number() == book.number() && book.open_tills() == 1
 }
 
+fn are_only<S: Setup>(books: &PhaseBooks<S>, tills: &PhaseTills<S>) -> bool
+    ensures { IsTrue result → AreOnlyTills (phase_accounts books.now) (phase_holdings tills.now) }
+{
+    is_only(&books.grants, &tills.grants) && is_only(&books.cost, &tills.cost)
+}
+
 fn is_pair<S: Setup>(client: &ClientDesk<S>, server: &ServerDesk<S>) -> bool
     ensures { IsTrue result → IsPair (client_side client.now) (server_side server.now) }
 {
     is_only(&server.books.stamps, &client.held.stamps)
         && is_only(&server.books.delta, &client.held.delta)
         && is_only(&server.books.rho, &client.held.rho)
-        && is_only(&client.books.reservation, &server.held.reservation)
-        && is_only(&client.books.priority, &server.held.priority)
+        && are_only(&client.books.reservation, &server.held.reservation)
+        && are_only(&client.books.priority, &server.held.priority)
 }
 
-/// Closes the pair: its stamps, and its grants in phase Priority.
-fn close<S: Setup>(client: ClientDesk<S>, server: ServerDesk<S>) -> Result<(u64, u64), Fail> {
+/// Closes the pair: its stamps, its grants in phase Priority, and what they cost.
+fn close<S: Setup>(client: ClientDesk<S>, server: ServerDesk<S>) -> Result<(u64, u64, u64), Fail> {
     if !is_pair(&client, &server) {
         return Err(Fail::new("a pair"));
     }
     let (stamps, grants) = close_pair(client, server);
-    Ok((stamps.stamps.gathered(), grants.priority.gathered()))
+    let granted = &grants.priority;
+    Ok((
+        stamps.stamps.gathered(),
+        granted.grants.gathered(),
+        granted.cost.gathered(),
+    ))
 }
 
 /// Settles both books, and closes the pair.
@@ -156,7 +172,8 @@ fn settle_both<S: Setup>(
     })
 }
 
-fn settle_opened<S: Setup>(alloc: Global, opened: Opened<S>) -> Result<Left, Fail> {
+/// What the books that were opened leave.
+pub(crate) fn settle_opened<S: Setup>(alloc: Global, opened: Opened<S>) -> Result<Left, Fail> {
     let Opened {
         mut book,
         pass,
@@ -189,10 +206,11 @@ fn settle_circle(rt: HostRuntime) -> Result<(), Fail> {
         queue: QueueLeft {
             requests: 0,
             numbers: (3, 0, 9, 1, 9),
-            units: 0,
+            cost: 1,
+            units: Amounts::default(),
         },
         stamps: 1,
-        closed: (2, 1),
+        closed: (2, 1, 1),
     };
     assert_eq!(rt; settle_all::<Brand>(rt.alloc(), Blank::new(14))?, left);
     Ok(())
@@ -241,7 +259,7 @@ fn settle_in_turn<S: Setup>(alloc: Global, blank: Blank) -> Result<[Option<usize
 #[test]
 fn settle_with_other_passes(rt: HostRuntime) -> Result<(), Fail> {
     assert_eq!(rt;
-        settle_in_turn::<Brand>(rt.alloc(), Blank::new(24))?,
+        settle_in_turn::<Brand>(rt.alloc(), Blank::new(28))?,
         [Some(1), Some(0), None, None]
     );
     Ok(())

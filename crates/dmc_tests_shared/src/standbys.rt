@@ -2,7 +2,7 @@
 ghost use Rattle.std.specs.Prelude.{◌≡◌};
 
 use crate::books::play;
-use crate::calls::submit;
+use crate::calls::{run, submit};
 use crate::opening::{LONG, ONE, Opened, ZERO, drop_opened, open, wait_config};
 use crate::same::assert_same;
 use crate::segments::rotate;
@@ -25,6 +25,7 @@ use dmc_text::watched::Watched;
 use dmc_text::write_line::write_config;
 use dmc_tick::tick::TickTag;
 use dmc_types::command::Command;
+use dmc_types::config::Counting;
 use dmc_types::ids::Token;
 use dmc_types::info::ClientInfo;
 use dmc_types::moment::Moment;
@@ -148,6 +149,61 @@ fn segments_written(rt: HostRuntime) -> Result<(), Fail> {
     Ok(())
 }
 
+// ---- a cancel
+
+/// Takes back the second request of client 1, after its first was granted.
+fn take_back<S: Setup>(opened: &mut Opened<S>) -> Result<Reply<TickTag>, Fail> {
+    let cancel = Command::Cancel {
+        client: ONE,
+        token: Token(9),
+        counting: Counting::All,
+    };
+    Ok(run(&mut opened.book, &mut opened.pass, cancel)?)
+}
+
+/// What a book released when the second request was taken back, and the reply.
+fn cancelled_part<S: Setup>(opened: &mut Opened<S>) -> Result<(Part<S>, Reply<TickTag>), Fail> {
+    play(opened)?;
+    submit_again(opened)?;
+    let reply = take_back(opened)?;
+    Ok((rotate(&mut opened.book)?, reply))
+}
+
+/// The segment of a book under this set-up, and the reply to the cancel. Then the book is lost.
+fn record_cancel<S: Setup>(alloc: Global, blank: Blank) -> Result<(Part<S>, Reply<TickTag>), Fail>
+    requires { blank.name ≡ S.name }
+{
+    let mut mint = blank.open::<S>();
+    let mut opened = open(alloc, &mut mint, 8)?;
+    let part = cancelled_part(&mut opened);
+    drop_opened(opened);
+    part
+}
+
+const CANCELLED: &str = "7 add 1 9 0 0 0 = tags - 0 0\n7 cancel 1 9 all = dropped 1\n";
+
+/// The text of a segment with a cancel, and the reply to it.
+fn write_cancel<S: Setup>(alloc: Global, blank: Blank) -> Result<(Vec<u8>, Reply<TickTag>), Fail>
+    requires { blank.name ≡ S.name }
+{
+    let (part, reply) = record_cancel::<S>(alloc, blank)?;
+    let mut text = head_text(alloc)?;
+    put_segment(&mut text, &part)?;
+    Ok((text, reply))
+}
+
+/// A cancel is recorded with its reply, and replays.
+#[test]
+fn cancel_recorded(rt: HostRuntime) -> Result<(), Fail> {
+    let (text, reply) = write_cancel::<Brand>(rt.alloc(), Blank::new(16))?;
+    assert_same(&rt, &reply, &Reply::Removed(1));
+    let whole = format!(in rt.alloc(); "{HEAD}{FIRST}{CANCELLED}")?;
+    assert_same(&rt, &text.as_slice(), &whole.as_bytes());
+    let verdict = verdict_on(rt.alloc(), &text)?;
+    assert_same(&rt, &verdict, &Ok(Verdict::Replays));
+    Ok(())
+}
+
 // ---- a standby
 
 /// Replays a segment.
@@ -228,8 +284,17 @@ fn pull_at(at: u64) -> Result<Command, Fail> {
     })
 }
 
-/// What comes after the segments: the request that is still queued is granted, and tags go on from its own.
-fn later() -> Result<[Command; 7], Fail> {
+/// The cancel of a request of client 1 whose stamp counts it.
+fn cancel(token: u32) -> Command {
+    Command::Cancel {
+        client: ONE,
+        token: Token(token),
+        counting: Counting::Others,
+    }
+}
+
+/// What comes after the segments: the request that is still queued is granted, tags go on from its own, and a request is taken back.
+fn later() -> Result<[Command; 9], Fail> {
     let info = ClientInfo::new(Some(10), 2, Some(20))?;
     let update = Command::Update {
         client: ONE,
@@ -241,6 +306,8 @@ fn later() -> Result<[Command; 7], Fail> {
         update,
         add(10, 3, 4)?,
         add(11, 2, 5)?,
+        cancel(10),
+        add(12, 2, 5)?,
         pull_at(6)?,
         pull_at(400)?,
         Command::Remove { client: ONE },

@@ -6,16 +6,16 @@ use crate::same::assert_same;
 use crate::tracker_calls::{AtLock, TrackerCalls};
 use crate::tracker_setup::{Opened, TIMES, grants_of, open_book};
 use crate::tracker_tests::{Left, TrackerTest, see_both};
-use dmc_ledger::bundle::StampTills;
+use dmc_ledger::bundle::{PhaseTills, StampTills};
 use dmc_ledger::desk::ClientDesk;
 use dmc_ledger::mint::Blank;
 use dmc_ledger::setup::Setup;
-use dmc_ledger::till::Till;
 use dmc_tlock::fault::EntryFault;
 use dmc_tlock::lock::TrackerLock;
 use dmc_tlock::pass::ClientPass;
 use dmc_tlock::status::TrackStatus;
 use dmc_types::config::Counting;
+use dmc_types::cost::Cost;
 use dmc_types::ids::ClientId;
 use std::alloc::Global;
 use std::marker::Brand;
@@ -33,40 +33,92 @@ struct Observed {
     refused: Option<EntryFault>,
 }
 
-const EXPECTED: [Observed; 2] = [
-    Observed {
-        first: (0, 0),
-        next: (1, 0),
-        status: TrackStatus {
-            sent: (1, 0),
-            skipped: (0, 0),
-            pending: (0, 0),
-            completions: (1, 0),
-            counting: Counting::All,
-            stamps: 2,
-            others: (0, 0),
+/// What is seen of requests of cost 1, and of one of cost 5 and one of cost 3.
+const EXPECTED: [(u32, u32, Observed); 4] = [
+    (
+        1,
+        1,
+        Observed {
+            first: (0, 0),
+            next: (1, 0),
+            status: TrackStatus {
+                sent: (1, 0),
+                skipped: (0, 0),
+                pending: (0, 0),
+                completions: (1, 0),
+                counting: Counting::All,
+                stamps: 2,
+                own: 0,
+                others: (0, 0),
+            },
+            refused: Some(EntryFault::HistoryFull),
         },
-        refused: Some(EntryFault::HistoryFull),
-    },
-    Observed {
-        first: (1, 1),
-        next: (1, 1),
-        status: TrackStatus {
-            sent: (2, 2),
-            skipped: (0, 0),
-            pending: (0, 0),
-            completions: (1, 0),
-            counting: Counting::Others,
-            stamps: 2,
-            others: (0, 0),
+    ),
+    (
+        1,
+        1,
+        Observed {
+            first: (1, 1),
+            next: (1, 1),
+            status: TrackStatus {
+                sent: (2, 2),
+                skipped: (0, 0),
+                pending: (0, 0),
+                completions: (1, 0),
+                counting: Counting::Others,
+                stamps: 2,
+                own: 2,
+                others: (0, 0),
+            },
+            refused: Some(EntryFault::HistoryFull),
         },
-        refused: Some(EntryFault::HistoryFull),
-    },
+    ),
+    (
+        5,
+        3,
+        Observed {
+            first: (0, 0),
+            next: (5, 0),
+            status: TrackStatus {
+                sent: (5, 0),
+                skipped: (0, 0),
+                pending: (0, 0),
+                completions: (5, 0),
+                counting: Counting::All,
+                stamps: 2,
+                own: 0,
+                others: (0, 0),
+            },
+            refused: Some(EntryFault::HistoryFull),
+        },
+    ),
+    (
+        5,
+        3,
+        Observed {
+            first: (5, 5),
+            next: (3, 3),
+            status: TrackStatus {
+                sent: (8, 8),
+                skipped: (0, 0),
+                pending: (0, 0),
+                completions: (5, 0),
+                counting: Counting::Others,
+                stamps: 2,
+                own: 8,
+                others: (0, 0),
+            },
+            refused: Some(EntryFault::HistoryFull),
+        },
+    ),
 ];
 
-/// Stamps, responds, stamps again, and stamps once too often.
+/// Stamps, responds, stamps again, and stamps once too often. These are the costs of the first two requests.
 #[derive(Drop)]
-struct CircleTest;
+struct CircleTest {
+    first: Cost,
+    next: Cost,
+}
 
 impl<S: Setup> TrackerTest<S> for CircleTest {
     type Seen = Observed;
@@ -75,11 +127,11 @@ impl<S: Setup> TrackerTest<S> for CircleTest {
         &self,
         tracker: &mut C,
         tills: &mut StampTills<S>,
-        grants: &mut Till<S>,
+        grants: &mut PhaseTills<S>,
     ) -> Result<Observed, Fail> {
-        let first = tracker.try_stamp(ZERO, tills)?;
-        tracker.try_respond(ZERO, grants)?;
-        let next = tracker.try_stamp(ZERO, tills)?;
+        let first = tracker.try_stamp_of_cost(ZERO, self.first, tills)?;
+        tracker.try_respond_of_cost(ZERO, self.first, grants)?;
+        let next = tracker.try_stamp_of_cost(ZERO, self.next, tills)?;
         let status = tracker.try_status(ZERO, tills)?;
         let refused = tracker.try_stamp(ZERO, tills).err();
         Ok(Observed {
@@ -96,19 +148,24 @@ fn circles<S: Setup, R: Wait>(
     alloc: Global,
     blank: Blank,
     counting: Counting,
+    test: &CircleTest,
 ) -> Result<[(Observed, Left); 2], Fail>
     requires { blank.name ≡ S.name }
 {
     let mut mint = blank.open::<S>();
-    see_both(rt, alloc, &mut mint, counting, &CircleTest)
+    see_both(rt, alloc, &mut mint, counting, test)
 }
 
 #[test]
 fn one_circle(rt: HostRuntime) -> Result<(), Fail> {
-    for observed in EXPECTED {
+    for (first, next, observed) in EXPECTED {
         let counting = observed.status.counting;
-        let blank = Blank::new(10);
-        let seen = circles::<Brand, HostRuntime>(&rt, rt.alloc(), blank, counting)?;
+        let blank = Blank::new(14);
+        let test = CircleTest {
+            first: Cost::new(first)?,
+            next: Cost::new(next)?,
+        };
+        let seen = circles::<Brand, HostRuntime>(&rt, rt.alloc(), blank, counting, &test)?;
         let (delta, rho) = observed.status.sent;
         let left = Left {
             released: 0,
@@ -124,7 +181,7 @@ fn one_circle(rt: HostRuntime) -> Result<(), Fail> {
 fn work<S: Setup, R: Wait>(
     mut tracker: AtLock<'_, S, R>,
     tills: &mut StampTills<S>,
-    grants: &mut Till<S>,
+    grants: &mut PhaseTills<S>,
 ) -> Result<(), EntryFault> {
     for _ in 0..TIMES {
         tracker.try_stamp(ZERO, tills)?;
@@ -137,7 +194,7 @@ fn work<S: Setup, R: Wait>(
 fn work_with_pass<S: Setup, R: Wait>(
     tracker: AtLock<'_, S, R>,
     pass: &mut ClientPass<S>,
-    grants: &mut Till<S>,
+    grants: &mut PhaseTills<S>,
 ) -> Result<(), EntryFault> {
     match pass.tills(ZERO) {
         Some(tills) => work(tracker, tills, grants),
@@ -150,9 +207,9 @@ fn work_at_once<S: Setup + Send + Sync, R: Threads + Wait + Sync>(
     rt: &R,
     lock: &TrackerLock<S>,
     pass: &mut ClientPass<S>,
-    grants: &mut Till<S>,
+    grants: &mut PhaseTills<S>,
     held: &mut StampTills<S>,
-    more: &mut Till<S>,
+    more: &mut PhaseTills<S>,
 ) -> Result<(), EntryFault> {
     let (one, two) = thread::join(
         rt,
@@ -168,7 +225,7 @@ fn observed_after<S: Setup + Send + Sync, R: Threads + Wait + Sync>(
     rt: &R,
     lock: &TrackerLock<S>,
     pass: &mut ClientPass<S>,
-    grants: &mut Till<S>,
+    grants: &mut PhaseTills<S>,
     desk: &mut ClientDesk<S>,
 ) -> Result<TrackStatus, Fail> {
     let mut more = grants_of(desk, TIMES)?;
@@ -215,7 +272,7 @@ fn two_threads_at_a_lock(rt: HostRuntime) -> Result<(), Fail> {
         (Counting::All, (2000, 0)),
         (Counting::Others, (2000, 2000)),
     ] {
-        let status = shared::<Brand, HostRuntime>(&rt, rt.alloc(), Blank::new(5), counting)?;
+        let status = shared::<Brand, HostRuntime>(&rt, rt.alloc(), Blank::new(7), counting)?;
         let counted = (status.stamps, status.completions);
         assert_same(&rt, &counted, &(2000, (2000, 0)));
         let (sent, pending) = (status.sent, status.pending);

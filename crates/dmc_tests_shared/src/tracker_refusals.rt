@@ -5,19 +5,19 @@ ghost use Rattle.dmc_tlock.specs.Opening.{AreNew};
 
 use crate::opening::ZERO;
 use crate::same::assert_same;
-use crate::tracker_calls::{AtLock, TrackerCalls};
+use crate::tracker_calls::{AtLock, TrackerCalls, unit_of, without_unit};
 use crate::tracker_setup::{Opened, open_book, open_desks};
-use dmc_ledger::bundle::StampTills;
+use dmc_ledger::bundle::{PhaseTills, StampTills};
 use dmc_ledger::desk::ServerDesk;
 use dmc_ledger::mint::{Blank, Mint};
 use dmc_ledger::setup::Setup;
-use dmc_ledger::till::Till;
 use dmc_tlock::book::TrackerBook;
 use dmc_tlock::fault::{EntryFault, TillFault};
 use dmc_tlock::lock::TrackerLock;
 use dmc_tlock::pass::ClientPass;
 use dmc_tracker::tracker::MakeFault;
-use dmc_types::config::Counting;
+use dmc_types::config::{Counting, PhaseType};
+use dmc_types::cost::Cost;
 use dmc_types::ids::{ClientId, ServerId};
 use std::alloc::Global;
 use std::marker::Brand;
@@ -34,7 +34,7 @@ fn refused_by<S: Setup, C: TrackerCalls<S>>(
     tracker: &mut C,
     server: ServerId,
     tills: &mut StampTills<S>,
-    grants: &mut Till<S>,
+    grants: &mut PhaseTills<S>,
 ) -> Refused {
     let stamped = tracker.try_stamp(server, tills).err();
     let seen = tracker.try_status(server, tills).err();
@@ -67,10 +67,10 @@ fn assert_refused<S: Setup, C: TrackerCalls<S>>(
     rt: &impl Abort,
     tracker: &mut C,
     tills: &mut StampTills<S>,
-    grants: &mut Till<S>,
+    grants: &mut PhaseTills<S>,
 ) {
     for (server, refused) in STRANGERS {
-        assert!(rt; grants.amount() > 0);
+        assert!(rt; grants.holds(Cost::ONE));
         let answers = refused_by(tracker, server, tills, grants);
         assert_same(rt, &answers, &refused);
     }
@@ -196,11 +196,66 @@ fn full_closed_stranger(rt: HostRuntime) -> Result<(), Fail> {
         (Counting::All, None),
         (Counting::Others, Some(EntryFault::TrackFull)),
     ] {
-        let blank = Blank::new(10);
+        let blank = Blank::new(14);
         let refused = strangers::<Brand, HostRuntime>(&rt, rt.alloc(), blank, counting)?;
         assert_same(&rt, &refused, &full);
     }
-    passes::<Brand>(&rt, rt.alloc(), Blank::new(10))?;
+    passes::<Brand>(&rt, rt.alloc(), Blank::new(14))?;
+    Ok(())
+}
+
+/// The results of a response to a grant of a client in a phase, with the grants of client 1 in phase Priority.
+const UNITS: [(ClientId, PhaseType, Option<EntryFault>); 3] = [
+    (ClientId(2), PhaseType::Priority, Some(EntryFault::Stranger)),
+    (
+        ClientId(1),
+        PhaseType::Reservation,
+        Some(EntryFault::Stranger),
+    ),
+    (ClientId(1), PhaseType::Priority, None),
+];
+
+/// The answer to a response for a grant of a client in a phase, with these grants. An allocation failure is an error.
+fn respond_as<S: Setup>(
+    book: &mut TrackerBook<S>,
+    client: ClientId,
+    phase: PhaseType,
+    grants: &mut PhaseTills<S>,
+) -> Result<Option<EntryFault>, Fail> {
+    let Some(unit) = unit_of(client, ZERO, phase, Cost::ONE, grants) else {
+        return Err(Fail::new("a grant of cost 1"));
+    };
+    match without_unit(book.respond(unit, grants)) {
+        Err(EntryFault::Memory) => Err(EntryFault::Memory.into()),
+        answer => Ok(answer.err()),
+    }
+}
+
+/// Units of another client and of another phase are refused.
+fn refuse_units<S: Setup>(
+    rt: &impl Abort,
+    book: &mut TrackerBook<S>,
+    grants: &mut PhaseTills<S>,
+) -> Result<(), Fail> {
+    for (client, phase, refused) in UNITS {
+        assert_same(rt, &respond_as(book, client, phase, grants)?, &refused);
+    }
+    Ok(())
+}
+
+fn units<S: Setup>(rt: &impl Abort, alloc: Global, blank: Blank) -> Result<(), Fail>
+    requires { blank.name ≡ S.name }
+{
+    let mut mint = blank.open::<S>();
+    let mut opened = open_book(alloc, &mut mint, ClientId(1), (9, 9), Counting::All)?;
+    let refused = refuse_units(rt, &mut opened.book, &mut opened.grants);
+    drop(opened);
+    refused
+}
+
+#[test]
+fn units_of_others(rt: HostRuntime) -> Result<(), Fail> {
+    units::<Brand>(&rt, rt.alloc(), Blank::new(7))?;
     Ok(())
 }
 
@@ -231,6 +286,6 @@ fn limit<S: Setup>(rt: &impl Abort, alloc: Global, blank: Blank) -> Result<(), F
 
 #[test]
 fn make_limits(rt: HostRuntime) -> Result<(), Fail> {
-    limit::<Brand>(&rt, rt.alloc(), Blank::new(5))?;
+    limit::<Brand>(&rt, rt.alloc(), Blank::new(7))?;
     Ok(())
 }

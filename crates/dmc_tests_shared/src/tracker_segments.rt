@@ -5,10 +5,9 @@ use crate::opening::ZERO;
 use crate::same::assert_same;
 use crate::tracker_calls::TrackerCalls;
 use crate::tracker_tests::{Left, TrackerTest, open_small, see_both};
-use dmc_ledger::bundle::StampTills;
+use dmc_ledger::bundle::{PhaseTills, StampTills};
 use dmc_ledger::mint::{Blank, Mint};
 use dmc_ledger::setup::Setup;
-use dmc_ledger::till::Till;
 use dmc_tlock::fault::EntryFault;
 use dmc_tlock::segment::TrackerSegment;
 use dmc_tlock::status::TrackStatus;
@@ -48,6 +47,7 @@ const FILLED: Filled = Filled {
         completions: (3, 0),
         counting: Counting::All,
         stamps: 2,
+        own: 0,
         others: (0, 0),
     },
 };
@@ -98,7 +98,7 @@ fn rotate<S: Setup, C: TrackerCalls<S>>(tracker: &mut C) -> Result<TrackerSegmen
 fn fill<S: Setup, C: TrackerCalls<S>>(
     tracker: &mut C,
     tills: &mut StampTills<S>,
-    grants: &mut Till<S>,
+    grants: &mut PhaseTills<S>,
 ) -> Result<Option<EntryFault>, EntryFault> {
     tracker.try_respond(ZERO, grants)?;
     tracker.try_stamp(ZERO, tills)?;
@@ -110,7 +110,7 @@ fn fill<S: Setup, C: TrackerCalls<S>>(
 fn go_on<S: Setup, C: TrackerCalls<S>>(
     tracker: &mut C,
     tills: &mut StampTills<S>,
-    grants: &mut Till<S>,
+    grants: &mut PhaseTills<S>,
     full: Option<EntryFault>,
 ) -> Result<Filled, Fail> {
     tracker.try_skip(ZERO)?;
@@ -134,7 +134,7 @@ impl<S: Setup> TrackerTest<S> for RotationTest<S> {
         &self,
         tracker: &mut C,
         tills: &mut StampTills<S>,
-        grants: &mut Till<S>,
+        grants: &mut PhaseTills<S>,
     ) -> Result<(Filled, Segments), Fail> {
         let full = fill(tracker, tills, grants)?;
         let first = rotate(tracker)?;
@@ -168,7 +168,7 @@ fn rotated<S: Setup, R: Wait>(
 
 #[test]
 fn tracker_segments_follow(rt: HostRuntime) -> Result<(), Fail> {
-    let seen = rotated::<Brand, HostRuntime>(&rt, rt.alloc(), Blank::new(15))?;
+    let seen = rotated::<Brand, HostRuntime>(&rt, rt.alloc(), Blank::new(21))?;
     let left = Left {
         released: 6,
         entries: 1,

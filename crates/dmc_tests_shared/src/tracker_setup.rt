@@ -4,11 +4,11 @@ ghost use Rattle.dmc_ledger.specs.Bundles.{new_server_side, server_side};
 ghost use Rattle.dmc_tlock.specs.Opening.{AreNew};
 
 use crate::opening::{ZERO, only};
+use dmc_ledger::bundle::PhaseTills;
 use dmc_ledger::desk::{ClientDesk, ServerDesk, open_pair};
 use dmc_ledger::full::Full;
 use dmc_ledger::mint::Mint;
 use dmc_ledger::setup::Setup;
-use dmc_ledger::till::Till;
 use dmc_tlock::book::TrackerBook;
 use dmc_tlock::pass::ClientPass;
 use dmc_types::config::Counting;
@@ -25,7 +25,7 @@ pub(crate) struct Opened<S: Setup> {
     pub(crate) book: TrackerBook<S>,
     pub(crate) pass: ClientPass<S>,
     pub(crate) desk: ClientDesk<S>,
-    pub(crate) grants: Till<S>,
+    pub(crate) grants: PhaseTills<S>,
 }
 
 /// The desks of a client's tracker.
@@ -88,10 +88,15 @@ pub(crate) fn open_book<S: Setup>(
     })
 }
 
-/// A till of this many grants in phase Priority.
-pub(crate) fn grants_of<S: Setup>(desk: &mut ClientDesk<S>, amount: u64) -> Result<Till<S>, Full> {
-    let books = &mut desk.books;
-    let mut till = books.priority.till()?;
-    books.priority.issue(&mut till, amount)?;
-    Ok(till)
+/// Tills of this many grants of cost 1 in phase Priority.
+pub(crate) fn grants_of<S: Setup>(
+    desk: &mut ClientDesk<S>,
+    amount: u64,
+) -> Result<PhaseTills<S>, Full> {
+    let books = &mut desk.books.priority;
+    let mut grants = books.grants.till()?;
+    books.grants.issue(&mut grants, amount)?;
+    let mut cost = books.cost.till()?;
+    books.cost.issue(&mut cost, amount)?;
+    Ok(PhaseTills { grants, cost })
 }

@@ -5,10 +5,9 @@ use crate::opening::ZERO;
 use crate::same::assert_same;
 use crate::tracker_calls::TrackerCalls;
 use crate::tracker_tests::{Left, TrackerTest, see_both};
-use dmc_ledger::bundle::StampTills;
+use dmc_ledger::bundle::{PhaseTills, StampTills};
 use dmc_ledger::mint::Blank;
 use dmc_ledger::setup::Setup;
-use dmc_ledger::till::Till;
 use dmc_tlock::fault::EntryFault;
 use dmc_tlock::status::TrackStatus;
 use dmc_types::config::Counting;
@@ -36,6 +35,7 @@ const IN_ALL: AfterSkip = AfterSkip {
         completions: (1, 0),
         counting: Counting::All,
         stamps: 0,
+        own: 0,
         others: (0, 0),
     },
     next: (0, 0),
@@ -52,6 +52,7 @@ const IN_OTHERS: AfterSkip = AfterSkip {
         completions: (1, 0),
         counting: Counting::Others,
         stamps: 0,
+        own: 0,
         others: (0, 0),
     },
     next: (1, 1),
@@ -70,7 +71,7 @@ impl<S: Setup> TrackerTest<S> for SkipTest {
         &self,
         tracker: &mut C,
         tills: &mut StampTills<S>,
-        grants: &mut Till<S>,
+        grants: &mut PhaseTills<S>,
     ) -> Result<AfterSkip, Fail> {
         tracker.try_respond(ZERO, grants)?;
         tracker.try_skip(ZERO)?;
@@ -103,7 +104,7 @@ fn skips<S: Setup, R: Wait>(
 fn skipped_server(rt: HostRuntime) -> Result<(), Fail> {
     for wanted in [IN_ALL, IN_OTHERS] {
         let counting = wanted.status.counting;
-        let seen = skips::<Brand, HostRuntime>(&rt, rt.alloc(), Blank::new(10), counting)?;
+        let seen = skips::<Brand, HostRuntime>(&rt, rt.alloc(), Blank::new(14), counting)?;
         let (delta, rho) = wanted.next;
         let left = Left {
             released: 0,

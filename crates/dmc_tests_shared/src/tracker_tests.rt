@@ -4,10 +4,9 @@ ghost use Rattle.dmc_tlock.specs.Consistent.{IsBalanced};
 use crate::opening::ZERO;
 use crate::tracker_calls::{AtLock, TrackerCalls};
 use crate::tracker_setup::{Opened, open_book};
-use dmc_ledger::bundle::StampTills;
+use dmc_ledger::bundle::{PhaseTills, StampTills};
 use dmc_ledger::mint::Mint;
 use dmc_ledger::setup::Setup;
-use dmc_ledger::till::Till;
 use dmc_tlock::book::TrackerBook;
 use dmc_tlock::laws::book_is_consistent;
 use dmc_tlock::lock::TrackerLock;
@@ -28,7 +27,7 @@ pub(crate) trait TrackerTest<S: Setup> {
         &self,
         tracker: &mut C,
         tills: &mut StampTills<S>,
-        grants: &mut Till<S>,
+        grants: &mut PhaseTills<S>,
     ) -> Result<Self::Seen, Fail>;
 }
 
@@ -96,7 +95,7 @@ fn seen_in_hand<S: Setup, X: TrackerTest<S>>(
 fn run_at_lock<S: Setup, R: Wait, X: TrackerTest<S>>(
     mut tracker: AtLock<'_, S, R>,
     pass: &mut ClientPass<S>,
-    grants: &mut Till<S>,
+    grants: &mut PhaseTills<S>,
     test: &X,
 ) -> Result<X::Seen, Fail> {
     match pass.tills(ZERO) {

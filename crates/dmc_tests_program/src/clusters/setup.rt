@@ -143,14 +143,14 @@ pub(super) fn turned_out(answer: Answer) -> Result<ClusterReport<TickTag>, Fail>
     }
 }
 
-/// Each client sent and completed 200 requests, and this many of them failed; nothing is left.
+/// Each client sent and completed 200 requests of cost 1, and this many of them failed; nothing is left.
 pub(super) fn is_whole(rt: &impl Abort, report: &ClusterReport<TickTag>, failed: u64) {
     for row in &report.clients {
         let held = (row.held.stamps, row.held.delta, row.held.rho);
         assert_same(
             rt,
-            &(row.sent, row.completed, row.failed),
-            &(200, 200, failed),
+            &(row.sent, row.completed, row.cost, row.failed),
+            &(200, 200, 200, failed),
         );
         assert_same(rt, &held, &(0, 0, 0));
         assert_same(rt, &row.stop, &None);

@@ -42,6 +42,41 @@ fn reduced_reservation(rt: HostRuntime) -> Result<(), Fail> {
     )
 }
 
+// A stamp counts what its client's requests cost, and a grant returns the cost of its own request.
+#[test]
+fn cost_returned(rt: HostRuntime) -> Result<(), Fail> {
+    gives(
+        &rt,
+        BOTH,
+        "hz 1000; client 1 100 1 - 0; client 2 - 1 - 0; add 1 11 0 0 0 cost 4; add 1 12 4 0 0 cost 4; \
+         add 2 21 0 0 0; pull 0; pull 0; pull 0",
+        "ok; ok; tags 0 0 0; tags 0 0 4000; tags - 0 0; grant 1 11 reservation cost 4; \
+         grant 1 12 reservation cost 4; grant 2 21 priority",
+    )
+}
+
+/// The last pull of a script and its grant: four spacings of 100 were taken off an R of 1200.
+const REDUCED: [(&str, &str); 2] = [
+    ("pull 799", "grant 1 13 priority"),
+    ("pull 800", "grant 1 13 reservation"),
+];
+
+#[test]
+fn cost_reduces(rt: HostRuntime) -> Result<(), Fail> {
+    for (pull, grant) in REDUCED {
+        let input = format!(in rt.alloc();
+            "hz 1000; client 1 10 1 - 0; add 1 11 0 0 0; add 1 12 8 8 0 cost 4; add 1 13 4 4 0; \
+             pull 0; pull 0; {pull}"
+        )?;
+        let output = format!(in rt.alloc();
+            "ok; tags 0 0 0; tags 800 0 8000; tags 1200 0 12000; grant 1 11 reservation; \
+             grant 1 12 priority cost 4; {grant}"
+        )?;
+        gives(&rt, BOTH, &input, &output)?;
+    }
+    Ok(())
+}
+
 #[test]
 fn newcomer_shift(rt: HostRuntime) -> Result<(), Fail> {
     gives(

@@ -56,3 +56,24 @@ fn reduction_out_of_range(rt: HostRuntime) -> Result<(), Fail> {
          grant 1 2 reservation",
     )
 }
+
+// Two units of cost take 2/65539 off 2/65537, which is no value, and 65539 units take off 1.
+#[test]
+fn reduction_of_cost_out_of_range(rt: HostRuntime) -> Result<(), Fail> {
+    gives(
+        &rt,
+        &["ratio"],
+        "hz 1; client 1 65537 1 - 0; add 1 1 1 1 0 cost 2; add 1 2 1 1 0; update 1 65539 1 - 0; pull 0; \
+         pull 1; pull 1",
+        "ok; tags 1/65537 0 1; tags 2/65537 0 2; updated; refused range; grant 1 1 reservation cost 2; \
+         grant 1 2 reservation",
+    )?;
+    gives(
+        &rt,
+        &["ratio"],
+        "hz 1; client 1 65537 1 - 0; add 1 1 1 1 0 cost 65539; add 1 2 1 1 0; update 1 65539 1 - 0; pull 0; \
+         pull 0",
+        "ok; tags 1/65537 0 1; tags 2/65537 0 2; updated; grant 1 1 priority cost 65539; \
+         grant 1 2 reservation",
+    )
+}

@@ -21,8 +21,8 @@ fn refused_values(rt: HostRuntime) -> Result<(), Fail> {
     gives(
         &rt,
         BOTH,
-        "hz 1000; client 1 - 1 - 0; add 1 1 1 2 0; client 2 0 1 - 0",
-        "ok; refused params; refused rate",
+        "hz 1000; client 1 - 1 - 0; add 1 1 1 2 0; client 2 0 1 - 0; add 1 1 1 2 0 cost 0; add 1 1 1 1 0 cost 0",
+        "ok; refused params; refused rate; refused params; refused cost",
     )
 }
 
@@ -65,7 +65,7 @@ fn blanks(alloc: Global, n: usize) -> Result<Vec<u8>, AllocError> {
 }
 
 /// Scripts that write nothing, each with the number of its faulty line and the cause.
-const FAULTS: [(&[u8], u64, LineCause); 8] = [
+const FAULTS: [(&[u8], u64, LineCause); 11] = [
     (b"hz 1000\npull 0\r\n", 2, LineCause::Bytes),
     (b"hz 1000\npull 01\n", 2, LineCause::Number),
     (
@@ -74,6 +74,9 @@ const FAULTS: [(&[u8], u64, LineCause); 8] = [
         LineCause::Number,
     ),
     (b"hz 1000\nadd 1 4294967296 0 0 0\n", 2, LineCause::Number),
+    (b"hz 1000\nadd 1 1 0 0 0 price 2\n", 2, LineCause::Words),
+    (b"hz 1000\nadd 1 1 0 0 0 cost\n", 2, LineCause::Words),
+    (b"hz 1000\nadd 1 1 0 0 0 cost 02\n", 2, LineCause::Number),
     (b"hz 1000\nhz 1000\n", 2, LineCause::Hz),
     (b"hz 1000 100\n", 1, LineCause::Words),
     (b"hz 0\n", 1, LineCause::Hz),

@@ -15,7 +15,7 @@ fn one_of(texts: [&'static str; 4], word: u64) -> &'static str {
     }
 }
 
-/// Adds a client. Its rates, its window of 1 to 4, and its 0 to 15 requests are chosen by a word.
+/// Adds a client. Its rates, its window of 1 to 4, its 0 to 15 requests and their costs are chosen by a word.
 fn put_client(text: &mut String, id: u64, word: u64) -> Result<(), AllocError> {
     let rates = [
         "weight = 1",
@@ -26,9 +26,11 @@ fn put_client(text: &mut String, id: u64, word: u64) -> Result<(), AllocError> {
     let rates = one_of(rates, word);
     let window = (word >> 8) % 4 + 1;
     let requests = (word >> 16) % 16;
+    let costs = ["", "costs = [1]", "costs = [3]", "costs = [2, 1, 7]"];
+    let costs = one_of(costs, word >> 24);
     writeln!(
         text,
-        "[[client]]\nid = {id}\n{rates}\nwindow = {window}\nrequests = {requests}"
+        "[[client]]\nid = {id}\n{rates}\nwindow = {window}\nrequests = {requests}\n{costs}"
     )
 }
 

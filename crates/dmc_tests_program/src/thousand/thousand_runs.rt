@@ -1,7 +1,7 @@
 //! A thousand runs in a row, each of another scene and with another clock.
 use super::clock::JumpingClock;
 use super::scenes::scene_of;
-use super::totals::{Totals, all_done, are_balanced, requests_of, totals_of};
+use super::totals::{Totals, all_done, are_balanced, totals_of};
 use super::words::word_of;
 use crate::replays::must_replay;
 use dmc_driver::fault::DriveFault;
@@ -77,7 +77,7 @@ fn run_number<R: Abort + AllocGlobal + Threads + Wait + Sync>(
     let (totals, done) = run_once(rt, rt.alloc(), &scene, word_of(run))?;
     assert!(rt; are_balanced(totals), "run {run}");
     if done {
-        assert_eq!(rt; totals, all_done(requests_of(&scene)), "run {run}");
+        assert_eq!(rt; totals, all_done(&scene), "run {run}");
     }
     Ok(done)
 }

@@ -1,13 +1,15 @@
 //! The result of a run, summed up.
+use dmc_scene::client::SceneClient;
 use dmc_scene::scene::Scene;
 use dmc_settle::report::{ClientReport, ClusterReport, ServerReport};
 use dmc_tag::tag::Tag;
 
-/// Numbers of requests, over all clients and servers.
+/// Numbers of requests, over all clients and servers, and what the completed ones cost.
 #[derive(Clone, Copy, Debug, PartialEq, Eq)]
 pub(super) struct Totals {
     pub(super) sent: u64,
     pub(super) completed: u64,
+    pub(super) cost: u64,
     pub(super) granted: u64,
     /// Granted, and not responded.
     pub(super) units: u64,
@@ -22,6 +24,7 @@ fn with_client(totals: Totals, row: &ClientReport) -> Totals {
     Totals {
         sent: totals.sent.wrapping_add(row.sent),
         completed: totals.completed.wrapping_add(row.completed),
+        cost: totals.cost.wrapping_add(row.cost),
         stamps: totals.stamps.wrapping_add(row.held.stamps),
         ..totals
     }
@@ -43,6 +46,7 @@ pub(super) fn totals_of<T: Tag>(report: &ClusterReport<T>) -> Totals {
     let mut totals = Totals {
         sent: 0,
         completed: 0,
+        cost: 0,
         granted: 0,
         units: 0,
         left: 0,
@@ -57,20 +61,27 @@ pub(super) fn totals_of<T: Tag>(report: &ClusterReport<T>) -> Totals {
     totals
 }
 
-/// The number of requests that the clients of a scene have.
-pub(super) fn requests_of(scene: &Scene) -> u64 {
-    let mut requests = 0u64;
-    for client in scene.clients() {
-        requests = requests.wrapping_add(u64::from(client.requests()));
+/// What the requests of a client cost.
+fn cost_of(client: &SceneClient) -> u64 {
+    let mut cost = 0u64;
+    for number in 0..client.requests() {
+        cost = cost.wrapping_add(u64::from(client.cost(number).units()));
     }
-    requests
+    cost
 }
 
-/// The result of a run of this many requests if all is done.
-pub(super) fn all_done(requests: u64) -> Totals {
+/// The result of a run of a scene if all is done.
+pub(super) fn all_done(scene: &Scene) -> Totals {
+    let mut requests = 0u64;
+    let mut cost = 0u64;
+    for client in scene.clients() {
+        requests = requests.wrapping_add(u64::from(client.requests()));
+        cost = cost.wrapping_add(cost_of(client));
+    }
     Totals {
         sent: requests,
         completed: requests,
+        cost,
         granted: requests,
         units: 0,
         left: 0,

@@ -8,8 +8,7 @@ use dmc_ledger::setup::Setup;
 use dmc_tag::reply::Reply;
 use dmc_tlock::book::TrackerBook;
 use dmc_tlock::pass::ClientPass;
-use dmc_types::config::PhaseType;
-use dmc_types::ids::{ClientId, ServerId, Token};
+use dmc_types::ids::{ServerId, Token};
 use std::test::Fail;
 
 /// Stamps and submits a request.
@@ -90,13 +89,7 @@ fn respond_first<S: Setup>(cluster: &mut Cluster<S>) -> Result<(), Fail> {
     let Some(pass) = passes.first_mut() else {
         return Err(Fail::new("the pass"));
     };
-    respond(
-        pass,
-        tracker,
-        ServerId(0),
-        ClientId(1),
-        PhaseType::Reservation,
-    )
+    respond(pass, tracker)
 }
 
 /// Client 1 stamps once more, for server 1, and submits nothing.

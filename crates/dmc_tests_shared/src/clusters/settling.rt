@@ -4,16 +4,16 @@ ghost use Rattle.std.specs.Prelude.{◌≡◌, ◌≤◌, IfOk};
 use super::playing::play;
 use super::setup::{BOOKS, Cluster, empty_cluster, fill, no_passes, scene};
 use crate::same::assert_same;
-use dmc_book::settled::GrantsHeld;
 use dmc_ledger::mint::{Blank, Mint};
 use dmc_ledger::setup::Setup;
 use dmc_queue_history::history::EventHistory;
 use dmc_scene::scene::Scene;
-use dmc_settle::report::{ClientReport, ClusterReport, ServerReport, StopCause};
+use dmc_settle::report::{
+    ClientReport, ClusterReport, ServerReport, StampsLeft, StopCause, UnitsHeld,
+};
 use dmc_settle::room::SettleRoom;
 use dmc_settle::settle::{Passes, settle_cluster};
 use dmc_tick::tick::TickTag;
-use dmc_tlock::settled::StampsHeld;
 use dmc_types::ids::{ClientId, ServerId};
 use std::alloc::Global;
 use std::marker::Brand;
@@ -30,8 +30,9 @@ fn client_row(client: u32, failed: u64, stop: Option<StopCause>) -> ClientReport
         client: ClientId(client),
         sent: 0,
         completed: 0,
+        cost: 0,
         failed,
-        held: StampsHeld::default(),
+        held: StampsLeft::default(),
         stop,
     }
 }
@@ -44,7 +45,7 @@ fn server_row(alloc: Global, server: u32) -> Result<ServerReport<TickTag>, Fail>
         reservation: 0,
         priority: 0,
         left: 0,
-        held: GrantsHeld::default(),
+        held: UnitsHeld::default(),
         history: EventHistory::new(alloc, 9)?,
         stops,
     })
@@ -179,7 +180,8 @@ fn played_rows() -> [ClientReport; 2] {
     let one = ClientReport {
         sent: 1,
         completed: 1,
-        held: StampsHeld {
+        cost: 1,
+        held: StampsLeft {
             stamps: 1,
             delta: 1,
             rho: 1,

@@ -22,8 +22,8 @@ use dmc_types::moment::Moment;
 use std::alloc::{AllocError, Global};
 use std::test::Fail;
 
-/// The number of books and lists of a cluster: five of each client at each server, five of each worker, and one of each server.
-pub(super) const BOOKS: u64 = 32;
+/// The number of books and lists of a cluster: seven of each client at each server, six of each worker, and one of each server.
+pub(super) const BOOKS: u64 = 42;
 
 const SCENE: &str = "hz = 1000\ntags = \"tick\"\nservers = 2\nworkers = 1\nstep = 1\nseed = 1\n\
                      max_pulls = 1\n[[client]]\nid = 1\nreservation = 10\nweight = 1\nrequests = 1\n\

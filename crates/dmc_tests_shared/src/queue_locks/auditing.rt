@@ -116,7 +116,7 @@ fn audited<S: Setup + Send + Sync, R: Threads + Wait + Sync>(
 
 #[test]
 fn audit_amid_submits(rt: HostRuntime) -> Result<(), Fail> {
-    let audited = audited::<Brand, HostRuntime>(&rt, rt.alloc(), Blank::new(24))?;
+    let audited = audited::<Brand, HostRuntime>(&rt, rt.alloc(), Blank::new(27))?;
     assert_same(&rt, &audited, &(true, 202, 200));
     Ok(())
 }

@@ -19,7 +19,6 @@ use dmc_tag::reply::{Pulled, Tags};
 use dmc_tick::tick::TickTag;
 use dmc_tlock::book::TrackerBook;
 use dmc_tlock::fault::EntryFault;
-use dmc_types::config::PhaseType;
 use dmc_types::ids::{ClientId, Token};
 use dmc_types::moment::Moment;
 use std::sync::Wait;
@@ -161,16 +160,10 @@ pub(super) fn was_closed(answer: Result<Tags<TickTag>, Stop>) -> Result<bool, St
     }
 }
 
-/// Returns the unit of a grant to its client's tracker.
+/// Returns the unit of the last grant to its client's tracker.
 pub(super) fn respond<S: Setup>(
     pass: &mut WorkerPass<S>,
     client: &mut Client<S>,
 ) -> Result<(), Fail> {
-    calls::respond(
-        pass,
-        &mut client.tracker,
-        ZERO,
-        client.id,
-        PhaseType::Priority,
-    )
+    calls::respond(pass, &mut client.tracker)
 }

@@ -181,6 +181,7 @@ fn later_client_and_worker(rt: HostRuntime) -> Result<(), Fail> {
         tokens: 11,
         grants: 1,
         granted: 6,
+        cost: 1,
     };
     let eight = Numbers {
         worker: 8,
@@ -189,6 +190,7 @@ fn later_client_and_worker(rt: HostRuntime) -> Result<(), Fail> {
         tokens: 0,
         grants: 1,
         granted: 5,
+        cost: 1,
     };
     assert_same(&rt, &answer, &(expected, (0, seven, eight)));
     Ok(())

@@ -24,6 +24,7 @@ use dmc_tag::reply::Pulled;
 use dmc_tlock::fault::EntryFault;
 use dmc_tlock::lock::TrackerLock;
 use dmc_tlock::pass::ClientPass;
+use dmc_types::cost::Cost;
 use dmc_types::ids::{ClientId, WorkerId};
 use std::alloc::Global;
 use std::marker::Brand;
@@ -220,7 +221,7 @@ fn submit_own<S: Setup, R: Wait>(
     own: &mut StampTills<S>,
     others: &mut StampTills<S>,
 ) -> Result<(ClientId, SubmitCause), Fail> {
-    let stamp = one.stamp(rt, ZERO, own)?;
+    let stamp = one.stamp(rt, ZERO, Cost::ONE, own)?;
     submit_with(rt, lock, pass, stamp, others)
 }
 
@@ -289,7 +290,7 @@ fn others<S: Setup, R: Wait>(rt: &R, alloc: Global, blank: Blank) -> Result<Othe
 
 #[test]
 fn full_closed_stranger(rt: HostRuntime) -> Result<(), Fail> {
-    let answer = full::<Brand, HostRuntime>(&rt, rt.alloc(), Blank::new(19))?;
+    let answer = full::<Brand, HostRuntime>(&rt, rt.alloc(), Blank::new(21))?;
     let no_room = RunOrRange::Run(RunFault::HistoryFull);
     let wanted = (
         Some(RunFault::NoDesk),
@@ -297,18 +298,18 @@ fn full_closed_stranger(rt: HostRuntime) -> Result<(), Fail> {
         (2, 2, 1),
     );
     assert_same(&rt, &answer, &wanted);
-    let answer = closed::<Brand, HostRuntime>(&rt, rt.alloc(), Blank::new(19))?;
+    let answer = closed::<Brand, HostRuntime>(&rt, rt.alloc(), Blank::new(21))?;
     let refused = Some(Stop::Submit(SubmitCause::Closed));
     let pulls = (grant(ONE, 9), Pulled::Nothing);
     assert_same(&rt, &answer, &(refused, pulls));
-    let answer = strange::<Brand, HostRuntime>(&rt, rt.alloc(), Blank::new(34))?;
+    let answer = strange::<Brand, HostRuntime>(&rt, rt.alloc(), Blank::new(42))?;
     let stranger = Some(RunFault::Stranger);
     let pulled = Some(RunOrRange::Run(RunFault::Stranger));
     let submitted = Some(Stop::Submit(SubmitCause::Stranger));
     assert_same(&rt, &answer, &(stranger, pulled, stranger, submitted));
-    let answer = twice::<Brand>(rt.alloc(), Blank::new(24))?;
+    let answer = twice::<Brand>(rt.alloc(), Blank::new(27))?;
     assert_same(&rt, &answer, &Some(NewFault::Twice));
-    let answer = others::<Brand, HostRuntime>(&rt, rt.alloc(), Blank::new(19))?;
+    let answer = others::<Brand, HostRuntime>(&rt, rt.alloc(), Blank::new(21))?;
     let refused = (ONE, SubmitCause::Stranger);
     assert_same(&rt, &answer, &(Some(EntryFault::Stranger), refused));
     Ok(())

@@ -18,6 +18,7 @@ pub(super) struct Numbers {
     pub(super) tokens: u64,
     pub(super) grants: u64,
     pub(super) granted: u64,
+    pub(super) cost: u64,
 }
 
 /// The requests that are left, and what each of two workers leaves.
@@ -31,6 +32,7 @@ fn numbers_of<S: Setup>(seat: &Seat<S>) -> Numbers {
         tokens: seat.tokens(),
         grants: seat.grants(),
         granted: seat.granted(),
+        cost: seat.cost(),
     }
 }
 

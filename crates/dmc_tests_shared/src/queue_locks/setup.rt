@@ -18,6 +18,7 @@ use dmc_tick::tick::TickTag;
 use dmc_tlock::book::TrackerBook;
 use dmc_tlock::pass::ClientPass;
 use dmc_types::config::{Counting, PhaseType, QueueConfig};
+use dmc_types::cost::Cost;
 use dmc_types::ids::{ClientId, Token, WorkerId};
 use std::alloc::Global;
 use std::test::Fail;
@@ -26,14 +27,20 @@ pub(super) type Lock<S> = QueueLock<TickTag, ListIndexes, S>;
 
 pub(super) const TWO: ClientId = ClientId(2);
 
-/// A grant in phase Priority.
-pub(super) fn grant(client: ClientId, token: u32) -> Pulled {
+/// A grant of this cost in phase Priority.
+pub(super) fn grant_of_cost(client: ClientId, token: u32, cost: Cost) -> Pulled {
     Pulled::Returning {
         client,
         token: Token(token),
         phase: PhaseType::Priority,
+        cost,
         beyond: false,
     }
+}
+
+/// A grant of cost 1.
+pub(super) fn grant(client: ClientId, token: u32) -> Pulled {
+    grant_of_cost(client, token, Cost::ONE)
 }
 
 /// A client's tracker of server 0, and its tills.

@@ -209,11 +209,13 @@ fn two_remain() -> Remains {
         tokens: 4950,
         grants: 0,
         granted: 0,
+        cost: 0,
     };
     let two = Numbers {
         worker: 2,
         calls: 101,
         grants: 1,
+        cost: 1,
         ..one
     };
     (199, one, two)
@@ -221,7 +223,7 @@ fn two_remain() -> Remains {
 
 #[test]
 fn two_threads(rt: HostRuntime) -> Result<(), Fail> {
-    let answer = two_at_once::<Brand, HostRuntime>(&rt, rt.alloc(), Blank::new(24))?;
+    let answer = two_at_once::<Brand, HostRuntime>(&rt, rt.alloc(), Blank::new(27))?;
     let wanted = Submitted {
         stamps: (0, 0),
         left: ((102, 4950, 0), (100, 4950), (2, 200, 202)),
@@ -294,7 +296,7 @@ fn closed_at_once<S: Setup + Send + Sync, R: Threads + Wait + Sync>(
 
 #[test]
 fn close_amid_submits(rt: HostRuntime) -> Result<(), Fail> {
-    let answer = closed_at_once::<Brand, HostRuntime>(&rt, rt.alloc(), Blank::new(24))?;
+    let answer = closed_at_once::<Brand, HostRuntime>(&rt, rt.alloc(), Blank::new(27))?;
     let ((own, other), (left, more)) = answer;
     assert_same(&rt, &own.checked_add(left), &Some(102));
     assert_same(&rt, &other.checked_add(more), &Some(100));

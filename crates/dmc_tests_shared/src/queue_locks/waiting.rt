@@ -1,5 +1,6 @@
 //! Workers that wait for a request.
-ghost use Rattle.std.specs.Prelude.{◌≡◌};
+ghost use Rattle.std.specs.Prelude.{◌≡◌, false};
+ghost use Rattle.dmc_book.specs.Calls.{is_add};
 
 use super::calls::{close, must_register, pull, pull_or_wait, respond, submit};
 use super::setup::{Client, Lock, Opened, drop_lock, last_pass, last_two, open};
@@ -11,9 +12,11 @@ use dmc_ledger::setup::Setup;
 use dmc_qlock::fault::RunOrRange;
 use dmc_tag::reply::Pulled;
 use dmc_types::command::Command;
-use dmc_types::ids::WorkerId;
+use dmc_types::config::Counting;
+use dmc_types::ids::{Token, WorkerId};
 use std::alloc::Global;
 use std::marker::Brand;
+use std::process::Abort;
 use std::sync::Wait;
 use std::test::Fail;
 use std::thread;
@@ -122,19 +125,22 @@ fn wait_for_close<S: Setup + Send + Sync, R: Threads + Wait + Sync>(
     ended
 }
 
-/// The results of two workers that wait for a request, and, once it is granted, for another one or a close.
+/// The results of two workers that wait for a request, and, once a command took it out, for another one or a close.
 fn woken_observed<S: Setup + Send + Sync, R: Threads + Wait + Sync>(
     rt: &R,
     lock: &Lock<S>,
     waiting: &mut Waiting<S>,
     third: &mut Third<S>,
-) -> Result<(Answers, Answers), Fail> {
+    command: Command,
+) -> Result<(Answers, Answers), Fail>
+    requires { is_add command ≡ false }
+{
     spend(rt, lock, third)?;
     let (observed, accepted) = wait_for_request(rt, lock, waiting, third);
     if !accepted {
         return Err(Fail::new("an accepted request"));
     }
-    lock.run(rt, &mut third.pass, Command::Remove { client: ONE })?;
+    lock.run(rt, &mut third.pass, command)?;
     Ok((observed, wait_for_close(rt, lock, waiting)))
 }
 
@@ -142,23 +148,44 @@ fn woken<S: Setup + Send + Sync, R: Threads + Wait + Sync>(
     rt: &R,
     alloc: Global,
     blank: Blank,
+    command: Command,
 ) -> Result<(Answers, Answers), Fail>
-    requires { blank.name ≡ S.name }
+    requires setup { blank.name ≡ S.name }
+    requires adds_nothing { is_add command ≡ false }
 {
     let mut mint = blank.open::<S>();
     let (lock, mut waiting, mut third) = open_three(alloc, &mut mint)?;
-    let observed = woken_observed(rt, &lock, &mut waiting, &mut third);
+    let observed = woken_observed(rt, &lock, &mut waiting, &mut third, command);
     drop((waiting, third));
     drop_lock(lock);
     observed
 }
 
+/// Both workers saw when the request was due, and then that nothing was queued.
+fn assert_woken(rt: &impl Abort, (observed, ended): (Answers, Answers)) {
+    let future = (Ok(Pulled::Future(50)), Ok(Pulled::Future(50)));
+    assert_same(rt, &observed, &future);
+    let nothing = (Ok(Pulled::Nothing), Ok(Pulled::Nothing));
+    assert_same(rt, &ended, &nothing);
+}
+
 #[test]
 fn all_who_wait_are_woken(rt: HostRuntime) -> Result<(), Fail> {
-    let (observed, ended) = woken::<Brand, HostRuntime>(&rt, rt.alloc(), Blank::new(29))?;
-    let future = Ok(Pulled::Future(50));
-    assert_same(&rt, &observed, &(future, future));
-    let nothing = Ok(Pulled::Nothing);
-    assert_same(&rt, &ended, &(nothing, nothing));
+    let command = Command::Remove { client: ONE };
+    let answers = woken::<Brand, HostRuntime>(&rt, rt.alloc(), Blank::new(33), command)?;
+    assert_woken(&rt, answers);
+    Ok(())
+}
+
+/// The request that they waited for is taken back.
+#[test]
+fn all_are_woken_after_a_cancel(rt: HostRuntime) -> Result<(), Fail> {
+    let command = Command::Cancel {
+        client: ONE,
+        token: Token(1),
+        counting: Counting::All,
+    };
+    let answers = woken::<Brand, HostRuntime>(&rt, rt.alloc(), Blank::new(33), command)?;
+    assert_woken(&rt, answers);
     Ok(())
 }

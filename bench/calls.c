@@ -27,7 +27,7 @@ static void must(uint32_t code) {
 
 static void add(struct dmc_queue *queue, uint32_t client, uint64_t at) {
   struct dmc_tags tags;
-  must(dmc_queue_add(queue, client, client, 1, 1, at, &tags));
+  must(dmc_queue_add(queue, client, client, 1, 1, 1, at, &tags));
 }
 
 /* Batches of pulls and adds, one moment each, of about half of the clients. */

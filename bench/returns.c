@@ -32,7 +32,7 @@ static struct dmc_queue filled(uint32_t clients, uint32_t shares) {
   must(dmc_queue_new(&queue, &config));
   for (uint32_t client = 0; client < clients; client++) {
     must(dmc_queue_register(&queue, client, 0, 1, 0, 0));
-    must(dmc_queue_add(&queue, client, client, 0, 0, 0, &tags));
+    must(dmc_queue_add(&queue, client, client, 0, 0, 1, 0, &tags));
   }
   for (uint32_t client = 0; client < RETURNS; client++) {
     struct dmc_pulled pulled;
@@ -48,7 +48,7 @@ static uint64_t taken(uint32_t clients, uint32_t shares) {
   struct dmc_tags tags;
   uint64_t begun = nanos();
   for (uint32_t client = 0; client < RETURNS; client++)
-    must(dmc_queue_add(&queue, client, client, 1, 1, IDLE_AGE + 1 + client, &tags));
+    must(dmc_queue_add(&queue, client, client, 1, 1, 1, IDLE_AGE + 1 + client, &tags));
   uint64_t ended = nanos();
   dmc_queue_free(&queue);
   return (ended - begun) / RETURNS;

@@ -61,7 +61,7 @@ static void complete(struct run *run, uint32_t server, uint64_t now) {
     if (!slot->is_busy || now < slot->until) continue;
     slot->is_busy = false;
     run->clients[slot->client].under_way--;
-    must(dmc_tracker_respond(&run->clients[slot->client].tracker, server, slot->phase));
+    must(dmc_tracker_respond(&run->clients[slot->client].tracker, server, slot->phase, 1));
   }
 }
 
@@ -94,8 +94,8 @@ static void send(struct run *run, uint32_t id, uint64_t now) {
   uint32_t server = client->turn++ % run->scene->servers, token = free_token(run);
   struct dmc_stamp stamp;
   struct dmc_tags tags;
-  must(dmc_tracker_stamp(&client->tracker, server, &stamp));
-  must(dmc_queue_add(&run->servers[server].queue, id, token, stamp.delta, stamp.rho, now, &tags));
+  must(dmc_tracker_stamp(&client->tracker, server, 1, &stamp));
+  must(dmc_queue_add(&run->servers[server].queue, id, token, stamp.delta, stamp.rho, stamp.cost, now, &tags));
   run->is_sent[token] = true;
   run->since[token] = now;
   client->under_way++;

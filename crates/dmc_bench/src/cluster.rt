@@ -10,9 +10,10 @@ use crate::fault::Fault;
 use crate::queues::HZ;
 use dmc_book::book::QueueBook;
 use dmc_book::pass::WorkerPass;
+use dmc_book::per_count::BOOKS_PER_WORKER;
 use dmc_index::index::Indexes;
 use dmc_ledger::bundle::StampTills;
-use dmc_ledger::desk::{ClientDesk, ServerDesk, open_pair};
+use dmc_ledger::desk::{BOOKS_PER_PAIR, ClientDesk, ServerDesk, open_pair};
 use dmc_ledger::mint::Mint;
 use dmc_ledger::setup::Setup;
 use dmc_ledger::stamp::Stamp;
@@ -22,7 +23,8 @@ use dmc_tag::tag::Tag;
 use dmc_tlock::book::TrackerBook;
 use dmc_tlock::pass::ClientPass;
 use dmc_types::command::Command;
-use dmc_types::config::{AtLimit, Counting, PhaseType, QueueConfig};
+use dmc_types::config::{AtLimit, Counting, QueueConfig};
+use dmc_types::cost::Cost;
 use dmc_types::ids::{ClientId, ServerId, Token, WorkerId};
 use dmc_types::info::ClientInfo;
 use dmc_types::limits::{MAX_COMPLETIONS, MAX_EVENTS};
@@ -52,7 +54,7 @@ pub struct Clients<S: Setup> {
     pub clients: Vec<Client<S>>,
 }
 
-/// The number of books that the server's lock and its clients take: five for each client, and five for each worker.
+/// The number of books that the server's lock and its clients take: those of each client, those of each worker, and one.
 pub fn book_count(clients: u32, workers: u32) -> Result<u64, Fault>
     ensures some { IfOk result (λ books. 0 < books) }
     ensures limit { IfOk result (λ books. books ≤ max_books) }
@@ -60,7 +62,7 @@ pub fn book_count(clients: u32, workers: u32) -> Result<u64, Fault>
     if clients == 0 || clients > MOST || workers == 0 || workers > MOST {
         return Err(Fault::Usage);
     }
-    Ok(5 * (u64::from(clients) + u64::from(workers)) + 1)
+    Ok(BOOKS_PER_PAIR * u64::from(clients) + BOOKS_PER_WORKER * u64::from(workers) + 1)
 }
 
 /// The desks of a client and the server.
@@ -205,7 +207,7 @@ fn next_stamp<S: Setup>(
     let Some(tills) = tills.tills(SERVER) else {
         return Err(Fault::Usage);
     };
-    match tracker.stamp(SERVER, tills) {
+    match tracker.stamp(SERVER, Cost::ONE, tills) {
         Ok(stamp) => Ok(stamp),
         Err(_) => Err(Fault::Failed),
     }
@@ -264,13 +266,16 @@ pub fn pull<T: Tag, I: Indexes<T>, S: Setup, R: Wait>(
 
 /// Returns the unit of a grant to its client's tracker.
 pub fn respond<S: Setup>(pass: &mut WorkerPass<S>, client: &mut Client<S>) -> Result<(), Fault> {
-    let Some(till) = pass.grant_till(client.id, PhaseType::Priority) else {
+    let Some(unit) = pass.take_unit() else {
         return Err(Fault::Usage);
     };
-    if till.amount() == 0 {
+    let Some(tills) = pass.grant_tills(unit.client(), unit.phase()) else {
+        return Err(Fault::Usage);
+    };
+    if !tills.holds(unit.cost()) {
         return Err(Fault::Usage);
     }
-    match client.tracker.respond(SERVER, PhaseType::Priority, till) {
+    match client.tracker.respond(unit, tills) {
         Ok(()) => Ok(()),
         Err(_) => Err(Fault::Failed),
     }

@@ -27,6 +27,180 @@ static struct gate gate;
 static pthread_t watcher;
 static bool has_watcher;
 
+/* ---- connections */
+
+/* The handle of a connection. */
+struct connection {
+  struct waiter waiter;    /* first, so that a waiter of the gate is a connection */
+  struct client *client;
+  pthread_mutex_t lock;    /* of has_gone and of the door, and held while nbdkit is asked whether the connection has gone */
+  bool has_gone;
+  bool is_held;            /* the door is, by the thread that may answer once the connection has gone */
+  bool is_stuck;           /* the door was held for too long: nobody waits for it any more */
+  unsigned passed;         /* how often the door was held */
+  pthread_cond_t opens;    /* the door does */
+  pthread_t opener;        /* the thread that opened it */
+  struct connection *next, **link; /* the next one, and what points to this one */
+};
+
+/* Those that are open. nbdkit does not close what is open at a shutdown. */
+static struct connection *connections;
+static pthread_mutex_t connections_lock = PTHREAD_MUTEX_INITIALIZER;
+
+/* Whether a connection is still there. nbdkit says so by how a sleep ends, and logs each that ends early: so one that has gone is not
+   asked about again. */
+static bool is_there(struct waiter *waiter)
+{
+  struct connection *connection = (struct connection *)waiter;
+  pthread_mutex_lock(&connection->lock);
+  connection->has_gone = connection->has_gone || (nbdkit_nanosleep(0, 0) == -1 && errno == ESHUTDOWN);
+  bool has_gone = connection->has_gone;
+  pthread_mutex_unlock(&connection->lock);
+  return !has_gone;
+}
+
+/* Whether a connection is known to have gone. */
+static bool is_gone(struct connection *connection)
+{
+  pthread_mutex_lock(&connection->lock);
+  bool has_gone = connection->has_gone;
+  pthread_mutex_unlock(&connection->lock);
+  return has_gone;
+}
+
+/* ---- doors
+
+   nbdkit 1.32 aborts if one thread fails to answer, since the connection is broken, when another is about to answer there. So once a
+   connection has gone its requests end one after the other: a thread holds the door while it answers, until it has ended, or has read
+   a further request. nbdkit joins the threads of a connection, but not the one that opened it; that one has the requests itself if no
+   other thread has. The first one waits for a while before it answers, since a thread that reads, or one whose request was done, may be
+   about to find that the connection is broken.
+
+   Whoever holds the door may wait for another that waits for it, if a filter before this one holds a lock during its requests, and it
+   does not answer at all if it is a thread of such a filter. So a door that nobody passes for two seconds is not waited for any more:
+   that is for so many looks, since on a busy machine whoever holds it may not run for as long. */
+
+#define DOOR_LOOKS 40
+#define LOOK 50000000u /* nanoseconds */
+
+/* The connection whose door a thread holds. */
+static pthread_key_t held_door;
+
+static void open_door(void *argument)
+{
+  struct connection *connection = argument;
+  pthread_mutex_lock(&connection->lock);
+  connection->is_held = false;
+  pthread_cond_signal(&connection->opens);
+  pthread_mutex_unlock(&connection->lock);
+}
+
+/* Waits, with the lock, until a thread has passed the door, or for the time of a look. */
+static void await_look(struct connection *connection)
+{
+  struct timespec until;
+  clock_gettime(CLOCK_MONOTONIC, &until);
+  uint64_t nanos = (uint64_t)until.tv_nsec + LOOK;
+  until.tv_sec += (time_t)(nanos / 1000000000);
+  until.tv_nsec = (long)(nanos % 1000000000);
+  pthread_cond_timedwait(&connection->opens, &connection->lock, &until);
+}
+
+/* Waits, with the lock, until nobody holds the door, or it is stuck. */
+static void await_door(struct connection *connection)
+{
+  unsigned passed = connection->passed, looks = 0;
+  while (connection->is_held && !connection->is_stuck) {
+    await_look(connection);
+    looks = connection->passed == passed ? looks + 1 : 0;
+    passed = connection->passed;
+    if (connection->is_held && looks == DOOR_LOOKS)
+      connection->is_stuck = true;
+  }
+}
+
+static void hold_door(struct connection *connection)
+{
+  if (pthread_equal(pthread_self(), connection->opener))
+    return;
+  pthread_mutex_lock(&connection->lock);
+  await_door(connection);
+  if (!connection->is_stuck && !pthread_setspecific(held_door, connection)) {
+    connection->is_held = true;
+    if (!connection->passed++)
+      await_look(connection);
+  }
+  pthread_mutex_unlock(&connection->lock);
+}
+
+/* Gives up the door that the thread holds, if it holds one. */
+static void leave_door(void)
+{
+  void *connection = pthread_getspecific(held_door);
+  if (!connection)
+    return;
+  pthread_setspecific(held_door, NULL);
+  open_door(connection);
+}
+
+/* ---- the handles of connections */
+
+static void list_connection(struct connection *connection)
+{
+  pthread_mutex_lock(&connections_lock);
+  connection->link = &connections;
+  connection->next = connections;
+  if (connection->next)
+    connection->next->link = &connection->next;
+  connections = connection;
+  pthread_mutex_unlock(&connections_lock);
+}
+
+static void unlist_connection(struct connection *connection)
+{
+  pthread_mutex_lock(&connections_lock);
+  *connection->link = connection->next;
+  if (connection->next)
+    connection->next->link = connection->link;
+  pthread_mutex_unlock(&connections_lock);
+}
+
+/* None of these calls can fail, of what is within a process. */
+static void init_door(struct connection *connection)
+{
+  pthread_condattr_t by_clock;
+  pthread_condattr_init(&by_clock);
+  pthread_condattr_setclock(&by_clock, CLOCK_MONOTONIC);
+  pthread_cond_init(&connection->opens, &by_clock);
+  pthread_condattr_destroy(&by_clock);
+  pthread_mutex_init(&connection->lock, NULL);
+}
+
+/* A connection of a client, which is released with it; if there is no memory for it, at once. */
+static struct connection *new_connection(struct client *client)
+{
+  struct connection *connection = calloc(1, sizeof *connection);
+  if (!connection) {
+    gate_release(&gate, client);
+    return NULL;
+  }
+  connection->waiter.is_wanted = is_there;
+  connection->client = client;
+  connection->opener = pthread_self();
+  init_door(connection);
+  list_connection(connection);
+  return connection;
+}
+
+static void free_connection(struct connection *connection)
+{
+  unlist_connection(connection);
+  pthread_mutex_destroy(&connection->lock);
+  pthread_cond_destroy(&connection->opens);
+  gate_release(&gate, connection->client);
+  free(connection);
+}
+
 /* ---- the start */
 
 static int dmclock_config(nbdkit_next_config *next, nbdkit_backend *backend, const char *key, const char *value)
@@ -42,7 +216,7 @@ static bool load(struct settings *all)
     nbdkit_error("dmclock: %s", strerror(ENOMEM));
     return false;
   }
-  bool is_read = settings_read_file(all);
+  bool is_read = settings_read_file(all) && settings_find_rates(all);
   if (!is_read)
     settings_free(all);
   return is_read;
@@ -82,7 +256,7 @@ static int register_clients(void)
 {
   for (const struct client_setting *setting = settings.clients; setting; setting = setting->next) {
     struct client *client;
-    int fault = gate_client(&gate, setting->name, &setting->found, true, &client);
+    int fault = gate_client(&gate, setting->name, &setting->rates.found, true, &client);
     if (fault)
       return is_failed(setting->name, fault);
     gate_release(&gate, client);
@@ -96,7 +270,9 @@ static int dmclock_get_ready(int thread_model)
     nbdkit_error("dmclock: the plugin and the filters must take requests in parallel, else they never wait here");
     return -1;
   }
-  int fault = gate_open(&gate, &settings.gate);
+  int fault = pthread_key_create(&held_door, open_door);
+  if (!fault)
+    fault = gate_open(&gate, &settings.gate);
   if (fault)
     return is_failed("the queue", fault);
   if (register_clients() == -1)
@@ -138,11 +314,11 @@ static void change_gate(const struct settings *now, const struct settings *befor
   gate_resize(&gate, now->gate.depth, now->gate.most_others);
   for (const struct client_setting *client = before->clients; client; client = client->next)
     if (!settings_have(now, client->name))
-      change(client->name, now->has_default ? &now->found : &client->found, false);
+      change(client->name, now->has_default ? &now->others.found : &client->rates.found, false);
   if (now->has_default)
-    gate_change_others(&gate, &now->found);
+    gate_change_others(&gate, &now->others.found);
   for (const struct client_setting *client = now->clients; client; client = client->next)
-    change(client->name, &client->found, true);
+    change(client->name, &client->rates.found, true);
 }
 
 /* Reads the file again. If anything is wrong with it, all stays as it was. */
@@ -237,7 +413,10 @@ static void dmclock_cleanup(nbdkit_backend *backend)
   gate_stop(&gate, ESHUTDOWN);
   if (has_watcher)
     pthread_join(watcher, NULL);
+  while (connections)
+    free_connection(connections);
   gate_close(&gate);
+  pthread_key_delete(held_door);
 }
 
 static void dmclock_unload(void)
@@ -287,7 +466,7 @@ static const char *dmclock_default_export(nbdkit_next_default_export *next, nbdk
   return is_first ? name : next(backend, readonly);
 }
 
-/* ---- connections: the handle of one is its client */
+/* ---- connections that come and go */
 
 /* The client of a name, for one more user. */
 static int client_of(const char *name, struct client **client)
@@ -295,7 +474,7 @@ static int client_of(const char *name, struct client **client)
   pthread_mutex_lock(&settings_lock);
   bool is_known = settings_have(&settings, name);
   const char *wanted = settings.is_shared && !is_known ? SHARED_NAME : name;
-  const struct rates *rates = settings.has_default ? &settings.found : NULL;
+  const struct rates *rates = settings.has_default ? &settings.others.found : NULL;
   int fault = is_known || rates ? gate_client(&gate, wanted, rates, false, client) : ENOENT;
   pthread_mutex_unlock(&settings_lock);
   return fault;
@@ -310,77 +489,87 @@ static void *dmclock_open(nbdkit_next_open *next, nbdkit_context *context, int r
     log_unknown(name, fault);
     return NULL;
   }
-  if (next(context, readonly, name) == -1) {
-    gate_release(&gate, client);
+  struct connection *connection = new_connection(client);
+  if (!connection) {
+    is_failed(name, ENOMEM);
     return NULL;
   }
-  return client;
+  if (next(context, readonly, name) == -1) {
+    free_connection(connection);
+    return NULL;
+  }
+  return connection;
 }
 
 static void dmclock_close(void *handle)
 {
-  gate_release(&gate, handle);
+  free_connection(handle);
 }
 
 /* ---- requests */
 
-/* Waits for a grant, and returns 0; the device's answer must then be followed by gate_leave. Else -1, and sets err. A connection
-   may die while its request waits: then the device is not called. */
-static int enter(struct client *client, int *err)
+/* Waits for the grant of a request for so many bytes, and returns 0; the device's answer must then be followed by `leave`. Else -1, and
+   sets err. A connection may go while its request waits: then the device is not called. */
+static int enter(struct connection *connection, uint32_t bytes, int *err)
 {
-  bool has_waited = false;
-  *err = gate_enter(&gate, client, &has_waited);
-  if (*err)
-    return -1;
-  if (has_waited && nbdkit_nanosleep(0, 0) == -1) {
-    gate_leave(&gate);
-    *err = ESHUTDOWN;
-    return -1;
-  }
-  return 0;
+  leave_door();
+  int fault = gate_enter(&gate, connection->client, bytes, &connection->waiter);
+  *err = fault == ECANCELED ? ESHUTDOWN : fault;
+  if (*err == ESHUTDOWN)
+    hold_door(connection);
+  return fault ? -1 : 0;
 }
 
-static int leave(int result)
+static int leave(struct connection *connection, int result)
 {
   gate_leave(&gate);
+  if (is_gone(connection))
+    hold_door(connection);
   return result;
 }
 
-static int dmclock_pread(nbdkit_next *next, void *client, void *buffer, uint32_t count, uint64_t offset, uint32_t flags, int *err)
+static int dmclock_pread(nbdkit_next *next, void *connection, void *buffer, uint32_t count, uint64_t offset, uint32_t flags, int *err)
 {
-  return enter(client, err) ? -1 : leave(next->pread(next, buffer, count, offset, flags, err));
+  return enter(connection, count, err) ? -1 : leave(connection, next->pread(next, buffer, count, offset, flags, err));
 }
 
-static int dmclock_pwrite(nbdkit_next *next, void *client, const void *buffer, uint32_t count, uint64_t offset, uint32_t flags,
+static int dmclock_pwrite(nbdkit_next *next, void *connection, const void *buffer, uint32_t count, uint64_t offset, uint32_t flags,
                           int *err)
 {
-  return enter(client, err) ? -1 : leave(next->pwrite(next, buffer, count, offset, flags, err));
+  return enter(connection, count, err) ? -1 : leave(connection, next->pwrite(next, buffer, count, offset, flags, err));
 }
 
-static int dmclock_flush(nbdkit_next *next, void *client, uint32_t flags, int *err)
+static int dmclock_flush(nbdkit_next *next, void *connection, uint32_t flags, int *err)
 {
-  return enter(client, err) ? -1 : leave(next->flush(next, flags, err));
+  return enter(connection, 0, err) ? -1 : leave(connection, next->flush(next, flags, err));
 }
 
-static int dmclock_trim(nbdkit_next *next, void *client, uint32_t count, uint64_t offset, uint32_t flags, int *err)
+static int dmclock_trim(nbdkit_next *next, void *connection, uint32_t count, uint64_t offset, uint32_t flags, int *err)
 {
-  return enter(client, err) ? -1 : leave(next->trim(next, count, offset, flags, err));
+  return enter(connection, count, err) ? -1 : leave(connection, next->trim(next, count, offset, flags, err));
 }
 
-static int dmclock_zero(nbdkit_next *next, void *client, uint32_t count, uint64_t offset, uint32_t flags, int *err)
+static int dmclock_zero(nbdkit_next *next, void *connection, uint32_t count, uint64_t offset, uint32_t flags, int *err)
 {
-  return enter(client, err) ? -1 : leave(next->zero(next, count, offset, flags, err));
+  return enter(connection, count, err) ? -1 : leave(connection, next->zero(next, count, offset, flags, err));
 }
 
-static int dmclock_extents(nbdkit_next *next, void *client, uint32_t count, uint64_t offset, uint32_t flags,
+static int dmclock_extents(nbdkit_next *next, void *connection, uint32_t count, uint64_t offset, uint32_t flags,
                            struct nbdkit_extents *extents, int *err)
 {
-  return enter(client, err) ? -1 : leave(next->extents(next, count, offset, flags, extents, err));
+  return enter(connection, 0, err) ? -1 : leave(connection, next->extents(next, count, offset, flags, extents, err));
 }
 
-static int dmclock_cache(nbdkit_next *next, void *client, uint32_t count, uint64_t offset, uint32_t flags, int *err)
+/* A filter before this one may give no place for an error, as nbdkit's readahead does, and nbdkit then fails at one. Nothing has to be
+   cached, so there is none. */
+static int dmclock_cache(nbdkit_next *next, void *connection, uint32_t count, uint64_t offset, uint32_t flags, int *err)
 {
-  return enter(client, err) ? -1 : leave(next->cache(next, count, offset, flags, err));
+  int fault = 0;
+  int result = enter(connection, count, &fault) ? -1 : leave(connection, next->cache(next, count, offset, flags, &fault));
+  if (!err)
+    return 0;
+  *err = fault;
+  return result;
 }
 
 static struct nbdkit_filter filter = {
@@ -388,16 +577,17 @@ static struct nbdkit_filter filter = {
   .longname = "nbdkit dmClock filter",
   .description = "Gives each client a reservation, a limit and a share of the rest.",
   .config_help =
-    "dmclock-client=NAME:RESERVATION:WEIGHT:LIMIT  A client's rates, in requests a second, - for none.\n"
+    "dmclock-client=NAME:RESERVATION:WEIGHT:LIMIT  A client's rates, in requests or, as 10MiB/s, bytes a second, - for none.\n"
     "dmclock-default=RESERVATION:WEIGHT:LIMIT      The rates of each other name; without it they are refused.\n"
     "dmclock-default-clients=N                     How many other names there may be at once (default 1000).\n"
     "dmclock-default-shared=true|false             Whether all other names are one client (default false).\n"
+    "dmclock-unit=BYTES                            A request costs 1 for each unit of bytes (default 0: each costs 1).\n"
     "dmclock-depth=N                               How many requests the device has at once (default 4).\n"
     "dmclock-at-limit=wait|allow|reject:MS         A client at its limit waits (default), gets what is left, or is refused what would wait longer.\n"
     "dmclock-shares=virtual|clock                  Shares are compared in virtual time (default), or by the clock, as mClock does.\n"
     "dmclock-idle=SECONDS                          Without a request for so long, a client is idle (default 5).\n"
     "dmclock-erase=SECONDS                         Without a request for so long, one of the default is forgotten (default 900).\n"
-    "dmclock-capacity=N                            Warn if the reservations are more requests a second than this.\n"
+    "dmclock-capacity=N                            Warn if the reservations are more a second than this.\n"
     "dmclock-stats=FILE                            A line of JSON a client, every second.\n"
     "dmclock-metrics=FILE                          The same for Prometheus.\n"
     "dmclock-config=FILE                           Further settings, one a line, read again if they change.",

@@ -13,13 +13,22 @@
 #define NO_TOKEN UINT32_MAX
 #define SECOND 1000000000u
 
-/* A request that waits for its grant, in the memory of the thread that waits. */
+/* How many requests of a client are walked over, to cancel some of them, while the lock is held once: for about a millisecond. */
+#define MOST_WALKED 4096
+
+/* A request that waits for its grant, in the memory of the thread that waits. That is woken once when the wait has ended, or the request
+   is no longer held, and once for each time that it is to ask. */
 struct slot {
   sem_t wakes;
   struct client *client;
+  struct waiter *waiter;
+  uint32_t bytes;
+  uint32_t token;
+  bool must_ask;           /* its thread is to ask whether it is wanted */
   uint64_t entered;
-  int fault;               /* an errno, if the gate was stopped before the grant */
-  struct slot *next;       /* of those that are granted at once */
+  int fault;               /* an errno, if the wait ended without a grant */
+  struct slot *next;       /* of those whose waits end at once, or that are held */
+  struct slot *next_asked; /* of those that are to ask at once */
 };
 
 /* ---- the clock */
@@ -44,19 +53,6 @@ static uint64_t moment_of(uint64_t nanos)
   return moment;
 }
 
-/* Condition variables that wait by the gate's clock. */
-static int init_condition(pthread_cond_t *condition)
-{
-  pthread_condattr_t by_clock;
-  int fault = pthread_condattr_init(&by_clock);
-  if (fault)
-    return fault;
-  pthread_condattr_setclock(&by_clock, CLOCK_MONOTONIC);
-  fault = pthread_cond_init(condition, &by_clock);
-  pthread_condattr_destroy(&by_clock);
-  return fault;
-}
-
 /* ---- the queue's codes */
 
 static int errno_of(uint32_t code)
@@ -71,16 +67,17 @@ static int errno_of(uint32_t code)
   }
 }
 
-/* ---- tokens: the token of a request is the place of its slot in the list */
+/* ---- tokens: the token of a request is its place in the list */
 
 struct place {
-  struct slot *slot;       /* NULL, if the place is free */
-  uint32_t next_free;
+  struct client *client;   /* NULL, if the place is free */
+  struct slot *slot;       /* NULL, if nobody waits for the request any more */
+  uint32_t earlier, later; /* the requests of its client before it and behind it; `later` of a free place is the next free one */
 };
 
 static void free_token(struct gate *gate, uint32_t token)
 {
-  gate->places[token] = (struct place){NULL, gate->free_token};
+  gate->places[token] = (struct place){.later = gate->free_token};
   gate->free_token = token;
 }
 
@@ -98,18 +95,50 @@ static int add_tokens(struct gate *gate)
   return 0;
 }
 
-static int take_token(struct gate *gate, struct slot *slot, uint32_t *token)
+static int take_token(struct gate *gate, struct slot *slot)
 {
   int fault = gate->free_token == NO_TOKEN ? add_tokens(gate) : 0;
   if (fault)
     return fault;
-  *token = gate->free_token;
-  gate->free_token = gate->places[*token].next_free;
-  gate->places[*token].slot = slot;
+  slot->token = gate->free_token;
+  gate->free_token = gate->places[slot->token].later;
+  gate->places[slot->token] = (struct place){slot->client, slot, NO_TOKEN, NO_TOKEN};
   return 0;
 }
 
 /* ---- grants */
+
+/* Wakes the threads of slots whose waits have ended, but one's own. A slot is gone once its thread is woken. Returns whether the own one is
+   among them. */
+static bool wake(struct slot *ended, const struct slot *own)
+{
+  bool has_own = false;
+  while (ended) {
+    struct slot *slot = ended;
+    ended = slot->next;
+    if (slot == own)
+      has_own = true;
+    else
+      sem_post(&slot->wakes);
+  }
+  return has_own;
+}
+
+/* Wakes the threads of requests that are held, of this client alone and of this waiter alone unless it is NULL: each looks whether it
+   still has to be. */
+static void wake_held(struct gate *gate, const struct client *client, const struct waiter *waiter)
+{
+  struct slot **at = &gate->held;
+  while (*at) {
+    struct slot *slot = *at;
+    if ((client && slot->client != client) || (waiter && slot->waiter != waiter))
+      at = &slot->next;
+    else {
+      *at = slot->next;
+      sem_post(&slot->wakes);
+    }
+  }
+}
 
 /* From now on each request ends with this errno, those that wait too. The first fault stays. */
 static void stop(struct gate *gate, int fault)
@@ -122,32 +151,71 @@ static void stop(struct gate *gate, int fault)
     if (!slot)
       continue;
     free_token(gate, token);
+    slot->client->latest = NO_TOKEN;
     slot->fault = fault;
     sem_post(&slot->wakes);
   }
   pthread_cond_signal(&gate->timer_wakes);
-  pthread_cond_broadcast(&gate->has_changed);
+  wake_held(gate, NULL, NULL);
 }
 
 static void change_rates(struct gate *gate, struct client *client, uint64_t now);
 
-/* A request is granted: its thread may use the device. A thread reads the clock before it has the lock, so a request may seem to come
-   after its grant. */
+/* The timer has something to do at this time. If it waits for longer, it is woken. */
+static void set_timer(struct gate *gate, uint64_t nanos)
+{
+  if (nanos < gate->timer_until)
+    pthread_cond_signal(&gate->timer_wakes);
+}
+
+/* A request is in the queue, as the latest one of its client. */
+static void join_queue(struct gate *gate, const struct slot *slot)
+{
+  struct client *client = slot->client;
+  gate->places[slot->token].earlier = client->latest;
+  if (client->latest != NO_TOKEN)
+    gate->places[client->latest].later = slot->token;
+  client->latest = slot->token;
+  gate->queued++;
+  client->queued++;
+  if (gate->next_look != NEVER)
+    return;
+  gate->next_look = slot->entered + gate->config.slice;
+  set_timer(gate, gate->next_look);
+}
+
+/* A request is no longer in the queue. Once none of its client is, the client may have other rates. */
+static void leave_queue(struct gate *gate, uint32_t token, uint64_t now)
+{
+  struct place left = gate->places[token];
+  free_token(gate, token);
+  *(left.later != NO_TOKEN ? &gate->places[left.later].earlier : &left.client->latest) = left.earlier;
+  if (left.earlier != NO_TOKEN)
+    gate->places[left.earlier].later = left.later;
+  gate->queued--;
+  gate->given_up -= !left.slot;
+  left.client->queued--;
+  if (left.client->is_changing && !left.client->queued)
+    change_rates(gate, left.client, now);
+}
+
+/* A request is granted: its thread may use the device. If nobody waits for it any more, the grant is nobody's. A thread reads the clock
+   before it has the lock, so a request may seem to come after its grant. */
 static struct slot *grant(struct gate *gate, const struct dmc_pulled *pulled, uint64_t now)
 {
   struct slot *slot = gate->places[pulled->token].slot;
+  leave_queue(gate, pulled->token, now);
+  if (!slot)
+    return NULL;
   struct client *client = slot->client;
   uint64_t waited = slot->entered < now ? now - slot->entered : 0;
-  free_token(gate, pulled->token);
-  gate->queued--;
-  client->queued--;
   client->grants[pulled->phase]++;
+  client->costs[pulled->phase] += pulled->cost;
+  client->bytes[pulled->phase] += slot->bytes;
   client->beyond += pulled->beyond;
   times_count(&client->waited, waited);
   buckets_count(&client->buckets[pulled->phase], waited);
   gate->under_way++;
-  if (client->is_changing && !client->queued)
-    change_rates(gate, client, now);
   return slot;
 }
 
@@ -158,8 +226,7 @@ static void wait_for_due(struct gate *gate, const struct dmc_pulled *pulled)
   if (dmc_nanos_from_due(DMC_FINE_HZ, pulled->due_low, pulled->due_high, &nanos) != DMC_OK)
     return;
   gate->due = nanos;
-  if (gate->due < gate->timer_until)
-    pthread_cond_signal(&gate->timer_wakes);
+  set_timer(gate, nanos);
 }
 
 /* The queue refused what it can't refuse: no request is granted any more. */
@@ -182,7 +249,7 @@ static struct slot *dispatch(struct gate *gate, uint64_t now)
       stop_for(gate, "the queue refuses to grant");
     else if (pulled.kind == DMC_GRANTED) {
       *last = grant(gate, &pulled, now);
-      last = &(*last)->next;
+      last = *last ? &(*last)->next : last;
       *last = NULL;
     } else if (pulled.kind == DMC_FUTURE)
       wait_for_due(gate, &pulled);
@@ -190,20 +257,123 @@ static struct slot *dispatch(struct gate *gate, uint64_t now)
   return granted;
 }
 
-/* Wakes the threads of slots that are granted, but one's own. A slot is gone once its thread is woken. Returns whether the own one is
-   among them. */
-static bool wake(struct slot *granted, const struct slot *own)
+/* ---- requests that are no longer wanted */
+
+/* A waiter has gone: the waits for its requests of a client end, and these are to be cancelled. Returns a list of them, to be woken without
+   the lock. */
+static struct slot *give_up(struct gate *gate, struct waiter *waiter, struct client *client)
 {
-  bool has_own = false;
-  while (granted) {
-    struct slot *slot = granted;
-    granted = slot->next;
-    if (slot == own)
-      has_own = true;
-    else
-      sem_post(&slot->wakes);
+  struct slot *ended = NULL;
+  waiter->has_gone = true;
+  wake_held(gate, client, waiter);
+  for (uint32_t token = client->latest; token != NO_TOKEN; token = gate->places[token].earlier) {
+    struct slot *slot = gate->places[token].slot;
+    if (!slot || slot->waiter != waiter)
+      continue;
+    gate->places[token].slot = NULL;
+    gate->given_up++;
+    client->cancelled++;
+    slot->fault = ECANCELED;
+    slot->next = ended;
+    ended = slot;
   }
-  return has_own;
+  return ended;
+}
+
+/* Takes a request out of the queue, which gives back what it was charged: each counts its own cost. */
+static void cancel(struct gate *gate, uint32_t token, uint64_t now)
+{
+  uint32_t removed = 0;
+  uint32_t code = dmc_queue_cancel(&gate->queue, gate->places[token].client->id, token, DMC_OTHERS, &removed);
+  if (code == DMC_OK && removed == 1)
+    leave_queue(gate, token, now);
+  else
+    stop_for(gate, "the queue does not have a request that is queued");
+}
+
+/* Cancels requests of a client that nobody waits for, from the latest to the earliest, so that each gives back all that it was charged:
+   behind one that was cancelled, another gives back no more than that had left ("Slack" in docs/RULES.md). The queue walks over all
+   requests of the client for each. */
+static void cancel_latest(struct gate *gate, struct client *client, uint32_t *walked, uint64_t now)
+{
+  uint32_t token = client->latest;
+  while (token != NO_TOKEN && *walked < MOST_WALKED && !gate->fault) {
+    struct place place = gate->places[token];
+    if (!place.slot) {
+      *walked += client->queued;
+      cancel(gate, token, now);
+    }
+    token = place.earlier;
+  }
+}
+
+/* Cancels requests that nobody waits for, until the queue has walked over many. Returns over how many; none, if none is left. */
+static uint32_t cancel_some(struct gate *gate, uint64_t now)
+{
+  uint32_t walked = 0;
+  for (uint32_t token = 0; token < gate->tokens && gate->given_up && walked < MOST_WALKED && !gate->fault; token++) {
+    struct place place = gate->places[token];
+    if (place.client && !place.slot)
+      cancel_latest(gate, place.client, &walked, now);
+  }
+  return walked;
+}
+
+/* Has the thread of a request ask, if no other one of its waiter does, and puts it before a list. */
+static struct slot *choose(struct slot *slot, struct slot *asked)
+{
+  if (slot->waiter->is_asked || slot->waiter->has_gone)
+    return asked;
+  slot->waiter->is_asked = slot->must_ask = true;
+  slot->next_asked = asked;
+  return slot;
+}
+
+/* Has a thread of each waiter ask whether its requests are wanted: returns a list of these, to be woken without the lock. */
+static struct slot *choose_asked(struct gate *gate)
+{
+  struct slot *asked = NULL;
+  for (uint32_t token = 0; token < gate->tokens; token++)
+    if (gate->places[token].slot)
+      asked = choose(gate->places[token].slot, asked);
+  for (struct slot *slot = gate->held; slot; slot = slot->next)
+    asked = choose(slot, asked);
+  return asked;
+}
+
+/* Wakes the threads of slots that are to ask. A slot stays until it is woken for that, even if it is granted before. */
+static void wake_asked(struct slot *asked)
+{
+  while (asked) {
+    struct slot *slot = asked;
+    asked = slot->next_asked;
+    sem_post(&slot->wakes);
+  }
+}
+
+/* Asks whether a request is wanted. If it is not, none of its waiter is. They are cancelled at the next look, together with those of others
+   that go meanwhile. */
+static void ask(struct gate *gate, struct slot *slot)
+{
+  bool is_wanted = slot->waiter->is_wanted(slot->waiter);
+  pthread_mutex_lock(&gate->lock);
+  slot->must_ask = slot->waiter->is_asked = false;
+  struct slot *ended = is_wanted ? NULL : give_up(gate, slot->waiter, slot->client);
+  pthread_mutex_unlock(&gate->lock);
+  wake(ended, NULL);
+}
+
+static void await_post(struct slot *slot)
+{
+  while (sem_wait(&slot->wakes) == -1)
+    ; /* a signal has come */
+}
+
+/* Waits until the wait for a request has ended, or it is no longer held, and asks whether it is wanted when it is to. */
+static void await_wake(struct gate *gate, struct slot *slot)
+{
+  for (await_post(slot); slot->must_ask; await_post(slot))
+    ask(gate, slot);
 }
 
 /* ---- the timer */
@@ -220,6 +390,34 @@ static void clean(struct gate *gate, uint64_t now)
   register_kept(gate, now);
   forget_clients(gate, now);
   gate->next_clean = now + gate->config.idle_seconds * SECOND / 4;
+}
+
+/* Has those who wait be asked. */
+static void look_around(struct gate *gate, uint64_t now)
+{
+  struct slot *asked = choose_asked(gate);
+  gate->next_look = gate->queued ? now + gate->config.slice : NEVER;
+  pthread_mutex_unlock(&gate->lock);
+  wake_asked(asked);
+  pthread_mutex_lock(&gate->lock);
+}
+
+/* Cancels what nobody waits for, a part in one go, after which others may be due earlier. Between two goes others have the lock. Once
+   nothing is left to cancel, those who wait are asked again. */
+static void look(struct gate *gate, uint64_t now)
+{
+  if (!cancel_some(gate, now)) {
+    look_around(gate, now);
+    return;
+  }
+  uint64_t done = gate_now(gate);
+  gate->due = now;
+  gate->next_look = done + (done - now) / 4;
+}
+
+static uint64_t least(uint64_t a, uint64_t b)
+{
+  return a < b ? a : b;
 }
 
 static void sleep_until(struct gate *gate, uint64_t nanos)
@@ -239,10 +437,12 @@ static void *keep_time(void *argument)
     uint64_t now = gate_now(gate);
     if (gate->next_clean <= now)
       clean(gate, now);
-    if (gate->due <= now)
+    if (gate->next_look <= now)
+      look(gate, now);
+    else if (gate->due <= now)
       wake(dispatch(gate, now), NULL);
     else
-      sleep_until(gate, gate->due < gate->next_clean ? gate->due : gate->next_clean);
+      sleep_until(gate, least(gate->due, least(gate->next_clean, gate->next_look)));
   }
   pthread_mutex_unlock(&gate->lock);
   return NULL;
@@ -289,13 +489,14 @@ static void change_rates(struct gate *gate, struct client *client, uint64_t now)
 {
   const struct rates *rates = &client->wanted;
   uint32_t code = dmc_queue_update(&gate->queue, client->id, rates->reservation, rates->weight, rates->limit, moment_of(now));
+  bool was_changing = client->is_changing;
   client->is_changing = code == DMC_BUSY;
   if (code == DMC_OK || code == DMC_UNKNOWN)
     client->rates = *rates;
   else if (code != DMC_BUSY)
     stop_for(gate, "the queue refuses other rates");
-  if (!client->is_changing)
-    pthread_cond_broadcast(&gate->has_changed);
+  if (was_changing && !client->is_changing)
+    wake_held(gate, client, NULL);
 }
 
 /* A client with memory for all that it needs, which the gate does not know yet. */
@@ -307,6 +508,7 @@ static struct client *new_client(const char *name, const struct rates *rates, bo
   client->name = strdup(name);
   client->rates = *rates;
   client->is_kept = is_kept;
+  client->latest = NO_TOKEN;
   if (!client->name) {
     free(client);
     return NULL;
@@ -411,40 +613,57 @@ static int change_client(struct gate *gate, const char *name, const struct rates
   return 0;
 }
 
+/* What a request for so many bytes costs: at least 1. */
+static uint32_t cost_of(const struct gate_config *config, uint32_t bytes)
+{
+  uint32_t units = config->unit ? bytes / config->unit + (bytes % config->unit != 0) : 1;
+  return units ? units : 1;
+}
+
 /* Queues a request of a client. One that the queue does not know, or has forgotten, is registered before. A request of one that
    finds no place, and one over its limit, is refused for want of memory, since NBD has no other word for it. */
-static int queue_request(struct gate *gate, const struct slot *slot, uint32_t token)
+static int queue_request(struct gate *gate, const struct slot *slot)
 {
   struct client *client = slot->client;
+  uint32_t cost = cost_of(&gate->config, slot->bytes);
   uint64_t moment = moment_of(slot->entered);
-  uint32_t code = dmc_queue_add_single(&gate->queue, client->id, token, moment);
+  uint32_t code = dmc_queue_add_single(&gate->queue, client->id, slot->token, cost, moment);
   if (code == DMC_UNKNOWN) {
     int fault = register_client(gate, client, slot->entered);
     if (fault)
       return fault == EBUSY ? ENOMEM : fault;
-    code = dmc_queue_add_single(&gate->queue, client->id, token, moment);
+    code = dmc_queue_add_single(&gate->queue, client->id, slot->token, cost, moment);
   }
   client->refused += code == DMC_OVER_LIMIT;
   return errno_of(code);
+}
+
+/* Holds a request, without the lock, until the rates of its client are no longer changing, as long as it is wanted. */
+static void await_rates(struct gate *gate, struct slot *slot)
+{
+  while (slot->client->is_changing && !gate->fault && !slot->waiter->has_gone) {
+    slot->next = gate->held;
+    gate->held = slot;
+    pthread_mutex_unlock(&gate->lock);
+    await_wake(gate, slot);
+    pthread_mutex_lock(&gate->lock);
+  }
 }
 
 /* Queues the request that a slot waits for. */
 static int submit(struct gate *gate, struct slot *slot)
 {
   struct client *client = slot->client;
-  uint32_t token;
-  while (client->is_changing && !gate->fault)
-    pthread_cond_wait(&gate->has_changed, &gate->lock);
-  int fault = gate->fault ? gate->fault : take_token(gate, slot, &token);
+  await_rates(gate, slot);
+  int fault = gate->fault ? gate->fault : slot->waiter->has_gone ? ECANCELED : take_token(gate, slot);
   if (fault)
     return fault;
-  fault = queue_request(gate, slot, token);
+  fault = queue_request(gate, slot);
   if (fault) {
-    free_token(gate, token);
+    free_token(gate, slot->token);
     return fault;
   }
-  gate->queued++;
-  client->queued++;
+  join_queue(gate, slot);
   client->requests++;
   client->last_request = slot->entered;
   return 0;
@@ -474,24 +693,31 @@ static void init_lock(pthread_mutex_t *lock)
   pthread_mutexattr_destroy(&short_time);
 }
 
+/* The timer waits by the gate's clock. None of these calls can fail, of what is within a process. */
+static void init_timer(struct gate *gate)
+{
+  pthread_condattr_t by_clock;
+  pthread_condattr_init(&by_clock);
+  pthread_condattr_setclock(&by_clock, CLOCK_MONOTONIC);
+  pthread_cond_init(&gate->timer_wakes, &by_clock);
+  pthread_condattr_destroy(&by_clock);
+}
+
 int gate_open(struct gate *gate, const struct gate_config *config)
 {
   gate->config = *config;
   gate->start = clock_nanos();
   gate->due = NEVER;
   gate->next_clean = config->idle_seconds * SECOND / 4;
+  gate->next_look = NEVER;
   gate->last = &gate->first;
   gate->free_token = NO_TOKEN;
   int fault = open_queue(gate, config);
   if (fault)
     return fault;
   init_lock(&gate->lock);
-  fault = init_condition(&gate->timer_wakes);
-  if (fault)
-    dmc_queue_free(&gate->queue);
-  else
-    pthread_cond_init(&gate->has_changed, NULL); /* which can't fail either */
-  return fault;
+  init_timer(gate);
+  return 0;
 }
 
 int gate_start(struct gate *gate)
@@ -527,7 +753,6 @@ void gate_close(struct gate *gate)
   free(gate->places);
   dmc_queue_free(&gate->queue);
   pthread_cond_destroy(&gate->timer_wakes);
-  pthread_cond_destroy(&gate->has_changed);
   pthread_mutex_destroy(&gate->lock);
 }
 
@@ -583,9 +808,19 @@ void gate_release(struct gate *gate, struct client *client)
   pthread_mutex_unlock(&gate->lock);
 }
 
-int gate_enter(struct gate *gate, struct client *client, bool *has_waited)
+/* Waits until a request is granted, and asks meanwhile, and then, whether it is wanted. */
+static int await_grant(struct gate *gate, struct slot *slot)
 {
-  struct slot slot = {.client = client, .entered = gate_now(gate)};
+  await_wake(gate, slot);
+  if (slot->fault || slot->waiter->is_wanted(slot->waiter))
+    return slot->fault;
+  gate_leave(gate);
+  return ECANCELED;
+}
+
+int gate_enter(struct gate *gate, struct client *client, uint32_t bytes, struct waiter *waiter)
+{
+  struct slot slot = {.client = client, .waiter = waiter, .bytes = bytes, .entered = gate_now(gate)};
   struct slot *granted = NULL;
   sem_init(&slot.wakes, 0, 0); /* which can't fail, of 0 */
   pthread_mutex_lock(&gate->lock);
@@ -594,11 +829,10 @@ int gate_enter(struct gate *gate, struct client *client, bool *has_waited)
     granted = dispatch(gate, slot.entered);
   pthread_mutex_unlock(&gate->lock);
   bool is_granted = wake(granted, &slot);
-  *has_waited = !fault && !is_granted;
-  while (*has_waited && sem_wait(&slot.wakes) == -1)
-    ; /* a signal has come */
+  if (!fault && !is_granted)
+    fault = await_grant(gate, &slot);
   sem_destroy(&slot.wakes);
-  return fault ? fault : slot.fault;
+  return fault;
 }
 
 void gate_leave(struct gate *gate)

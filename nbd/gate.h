@@ -13,11 +13,24 @@
 
 struct gate_config {
   uint32_t depth;
+  uint32_t unit;           /* bytes for which a request costs 1, so that a longer one costs more; 0 if each costs 1 */
   enum dmc_at_limit at_limit;
   uint64_t threshold_millis; /* under DMC_REJECT, how long a request may wait for its client's limit */
   enum dmc_shares shares;
   uint64_t idle_seconds, erase_seconds; /* how long without a request until a client is idle, and until it is forgotten */
   uint32_t most_others;    /* the most clients that are not kept */
+  uint64_t slice;          /* nanoseconds after which those who wait for requests are asked whether they are wanted, again and again */
+};
+
+struct slot;
+struct place;
+
+/* Who waits for requests: a connection, of an nbdkit filter. It starts as zeros but for the question, and stays where it is while a
+   request of it is in the gate. The other fields are the gate's own. */
+struct waiter {
+  bool (*is_wanted)(struct waiter *); /* whether its requests are wanted: asked in the thread of one of them, with no lock held */
+  bool is_asked;           /* it has yet to say it */
+  bool has_gone;           /* it has said no */
 };
 
 /* A client of the gate, from its first `gate_client` on. Its fields are read under the gate's lock. */
@@ -29,9 +42,12 @@ struct client {
   uint32_t id;
   bool is_kept;            /* it has a place in the queue whatever other names come, and is never forgotten */
   uint32_t users;          /* who holds it: connections, of an nbdkit filter */
-  uint32_t queued;
+  uint32_t queued;         /* requests in the queue, those that nobody waits for any more among them */
+  uint32_t latest;         /* of its requests that are queued, the place of the one that came last */
   uint64_t requests, grants[2]; /* the grants by dmc_phase */
+  uint64_t costs[2], bytes[2]; /* what these cost, and how many bytes they were for, by dmc_phase */
   uint64_t beyond;         /* those of them beyond the limit */
+  uint64_t cancelled;      /* requests whose waiter went while they were queued */
   uint64_t refused;        /* requests that came over the limit, and are not among `requests` */
   uint64_t last_request;   /* nanoseconds of the gate's clock */
   struct times waited;     /* from entering to the grant */
@@ -39,22 +55,20 @@ struct client {
   struct client *next, **link; /* the next one, and what points to this one */
 };
 
-struct place;
-
 /* A gate. Its fields are the gate's own. */
 struct gate {
   pthread_mutex_t lock;
   pthread_cond_t timer_wakes;
-  pthread_cond_t has_changed; /* a client's rates are no longer changing */
   pthread_t timer;
   bool has_timer;
   struct gate_config config;
   struct dmc_queue queue;
   uint64_t start;          /* of the gate's clock, in nanoseconds of CLOCK_MONOTONIC */
   uint32_t under_way;      /* requests at the device */
-  uint64_t due;            /* when the next request is due; UINT64_MAX where that is not known */
+  uint64_t due;            /* when the next request is due; UINT64_MAX if that is not known */
   uint64_t timer_until;    /* until when the timer waits */
   uint64_t next_clean;
+  uint64_t next_look;      /* when those who wait are looked at; UINT64_MAX if nobody did at the last one */
   int fault;               /* an errno, once no request is granted any more */
   const char *reason;      /* why, if the queue refused what it can't refuse */
   uint32_t next_id;
@@ -62,6 +76,8 @@ struct gate {
   struct client *first, **last; /* all clients, in the order in which they came */
   void *names;             /* a tree of them */
   uint32_t queued;         /* requests in the queue */
+  uint32_t given_up;       /* those of them that nobody waits for any more */
+  struct slot *held;       /* requests that are not in it, since their clients' rates are changing */
   struct place *places;    /* where the requests in the queue are waited for, by their tokens */
   uint32_t tokens, free_token; /* how many places there are, and the first free one */
 };
@@ -97,10 +113,12 @@ void gate_resize(struct gate *, uint32_t depth, uint32_t most_others);
 /* A user of the client less. One that is not kept, and has no user and never had a request, is forgotten. */
 void gate_release(struct gate *, struct client *);
 
-/* Waits for a request of the client until it is granted. Returns 0, and whether it had to wait; else ENOMEM if an allocation failed,
-   the queue is full or the request is over the client's limit, or the errno that the gate was stopped with. After 0, and only then,
-   `gate_leave` must follow. */
-int gate_enter(struct gate *, struct client *, bool *has_waited);
+/* Waits for a request of the client, for so many bytes, until it is granted. While requests of a waiter are queued, the thread of one of
+   them asks it at the end of each slice whether they are wanted, and each asks at its grant if it had to wait. If they are not, their
+   waits end; they leave the queue a slice later, and what was charged for them is given back. Returns 0; else ECANCELED if the waiter has
+   gone, ENOMEM if an allocation failed, the queue is full or the request is over the client's limit, or the errno that the gate was
+   stopped with. After 0, and only then, `gate_leave` must follow. */
+int gate_enter(struct gate *, struct client *, uint32_t bytes, struct waiter *);
 
 /* The device is done with a request. */
 void gate_leave(struct gate *);

@@ -58,7 +58,8 @@ char *__wrap_strdup(const char *text)
 /* ---- tests */
 
 static const struct gate_config one_at_once = {
-  .depth = 1, .at_limit = DMC_WAIT, .shares = DMC_VIRTUAL, .idle_seconds = 60, .erase_seconds = 60, .most_others = 65536};
+  .depth = 1, .at_limit = DMC_WAIT, .shares = DMC_VIRTUAL, .idle_seconds = 60, .erase_seconds = 60, .most_others = 65536,
+  .slice = 10000000};
 
 static struct rates rates_of(uint32_t reservation, uint32_t weight, uint32_t limit)
 {
@@ -95,10 +96,32 @@ static void percentiles(void)
   CHECK(times_percentile(&times, 100) == UINT64_MAX / 2);
 }
 
+/* A waiter that stays, and that is asked if its request had to wait. */
+struct patient {
+  struct waiter waiter;
+  bool is_asked;
+};
+
+static bool stays(struct waiter *waiter)
+{
+  ((struct patient *)waiter)->is_asked = true;
+  return true;
+}
+
+/* Enters with a request that stays wanted, and says whether it had to wait. */
+static int enter_for(struct gate *gate, struct client *client, uint32_t bytes, bool *has_waited)
+{
+  struct patient patient = {.waiter = {.is_wanted = stays}};
+  int fault = gate_enter(gate, client, bytes, &patient.waiter);
+  *has_waited = patient.is_asked;
+  return fault;
+}
+
 /* A thread's request. */
 struct entry {
   struct gate *gate;
   struct client *client;
+  uint32_t bytes;
   int fault;
 };
 
@@ -106,7 +129,7 @@ static void *enter(void *argument)
 {
   struct entry *entry = argument;
   bool has_waited;
-  entry->fault = gate_enter(entry->gate, entry->client, &has_waited);
+  entry->fault = enter_for(entry->gate, entry->client, entry->bytes, &has_waited);
   return NULL;
 }
 
@@ -136,8 +159,8 @@ static void waiting(void)
   CHECK(gate_client(&gate, "a", NULL, false, &client) == ENOENT);
   CHECK(gate_client(&gate, "a", &none, false, &client) == 0);
   CHECK(gate_client(&gate, "a", NULL, false, &same) == 0 && same == client && client->users == 2);
-  CHECK(gate_enter(&gate, client, &has_waited) == 0 && !has_waited);
-  struct entry entry = {&gate, client, -1};
+  CHECK(enter_for(&gate, client, 0, &has_waited) == 0 && !has_waited);
+  struct entry entry = {&gate, client, 0, -1};
   pthread_create(&thread, NULL, enter, &entry);
   await_queued(&gate, client, 1);
   gate_leave(&gate);
@@ -148,8 +171,47 @@ static void waiting(void)
   gate_stop(&gate, ESHUTDOWN);
   pthread_join(thread, NULL);
   CHECK(entry.fault == ESHUTDOWN);
-  CHECK(gate_enter(&gate, client, &has_waited) == ESHUTDOWN);
+  CHECK(enter_for(&gate, client, 0, &has_waited) == ESHUTDOWN);
   CHECK(client->requests == 3 && client->grants[DMC_PRIORITY] == 2 && client->grants[DMC_RESERVATION] == 0);
+  gate_close(&gate);
+}
+
+/* What requests cost by their bytes: as many units as they begin, and 1 at least; each 1 without a unit. */
+static void sizes(void)
+{
+  static const struct {
+    uint32_t unit, bytes, cost;
+  } rows[] = {{4096, 0, 1}, {4096, 1, 1}, {4096, 4096, 1}, {4096, 4097, 2}, {4096, 1 << 20, 256}, {1, UINT32_MAX, UINT32_MAX}, {0, 1 << 20, 1}};
+  for (size_t i = 0; i < sizeof rows / sizeof *rows; i++) {
+    struct gate gate = {0};
+    struct gate_config config = one_at_once;
+    struct rates none = rates_of(0, 1, 0);
+    struct client *client;
+    bool has_waited;
+    config.unit = rows[i].unit;
+    CHECK(gate_open(&gate, &config) == 0 && gate_client(&gate, "a", &none, true, &client) == 0);
+    CHECK(enter_for(&gate, client, rows[i].bytes, &has_waited) == 0 && !has_waited);
+    CHECK(client->costs[DMC_PRIORITY] == rows[i].cost && client->bytes[DMC_PRIORITY] == rows[i].bytes);
+    CHECK(client->costs[DMC_RESERVATION] == 0 && client->bytes[DMC_RESERVATION] == 0);
+    gate_leave(&gate);
+    gate_close(&gate);
+  }
+}
+
+/* A request's cost counts by its client's limit: after one of cost 4 the next is due four steps later. */
+static void limit_by_cost(void)
+{
+  struct gate gate = {0};
+  struct gate_config config = one_at_once;
+  struct client *slow;
+  struct rates twice = rates_of(0, 1, 2);
+  bool has_waited;
+  config.unit = 512;
+  config.at_limit = DMC_REJECT;
+  config.threshold_millis = 2000; /* four steps of a limit of 2 a second */
+  CHECK(gate_open(&gate, &config) == 0 && gate_client(&gate, "slow", &twice, true, &slow) == 0);
+  CHECK(enter_for(&gate, slow, 5 * 512, &has_waited) == ENOMEM && slow->refused == 1);
+  CHECK(gate.queued == 0 && slow->requests == 0);
   gate_close(&gate);
 }
 
@@ -162,16 +224,17 @@ static void over_limit(void)
   struct rates once = rates_of(0, 1, 1), none = rates_of(0, 1, 0);
   pthread_t thread;
   bool has_waited = true;
+  config.unit = 512;
   config.at_limit = DMC_REJECT;
-  config.threshold_millis = 1000;
+  config.threshold_millis = 5000;
   CHECK(gate_open(&gate, &config) == 0 && gate_start(&gate) == 0);
   CHECK(gate_client(&gate, "slow", &once, true, &slow) == 0 && gate_client(&gate, "other", &none, true, &other) == 0);
-  struct entry entry = {&gate, slow, -1};
-  pthread_create(&thread, NULL, enter, &entry); /* due at the first second */
+  struct entry entry = {&gate, slow, 5 * 512, -1};
+  pthread_create(&thread, NULL, enter, &entry); /* due at the fifth second */
   await_queued(&gate, slow, 1);
-  CHECK(gate_enter(&gate, slow, &has_waited) == ENOMEM && !has_waited); /* would be due at the second one */
+  CHECK(enter_for(&gate, slow, 5 * 512, &has_waited) == ENOMEM && !has_waited); /* would be due at the tenth one */
   CHECK(gate.queued == 1 && slow->queued == 1 && slow->requests == 1 && slow->refused == 1);
-  CHECK(gate_enter(&gate, other, &has_waited) == 0 && !has_waited && other->refused == 0);
+  CHECK(enter_for(&gate, other, 0, &has_waited) == 0 && !has_waited && other->refused == 0);
   gate_leave(&gate);
   pthread_join(thread, NULL);
   CHECK(entry.fault == 0 && slow->grants[DMC_PRIORITY] == 1);
@@ -189,7 +252,7 @@ static void due_later(void)
   CHECK(gate_client(&gate, "a", &ten, true, &client) == 0);
   uint64_t before = gate_now(&gate);
   for (int i = 0; i < 4; i++) {
-    CHECK(gate_enter(&gate, client, &has_waited) == 0);
+    CHECK(enter_for(&gate, client, 0, &has_waited) == 0);
     gate_leave(&gate);
   }
   CHECK(has_waited && 290000000 < gate_now(&gate) - before);
@@ -213,7 +276,7 @@ static void most_clients(void)
   gate_close(&gate);
 }
 
-/* A client that is not kept is forgotten where nobody uses it; one that is used is registered again. */
+/* A client that is not kept is forgotten if nobody uses it; one that is used is registered again. */
 static void forgotten(void)
 {
   struct gate gate = {0};
@@ -233,9 +296,9 @@ static void forgotten(void)
   CHECK(gate_client(&gate, "kept", NULL, false, &kept) == 0);
   uint32_t clients = 9, requests = 9;
   CHECK(dmc_queue_counts(&gate.queue, &clients, &requests) == DMC_OK && clients == 1 && requests == 0);
-  CHECK(gate_enter(&gate, used, &has_waited) == 0);
+  CHECK(enter_for(&gate, used, 0, &has_waited) == 0);
   gate_leave(&gate);
-  CHECK(gate_enter(&gate, kept, &has_waited) == 0);
+  CHECK(enter_for(&gate, kept, 0, &has_waited) == 0);
   gate_leave(&gate);
   gate_close(&gate);
 }
@@ -259,9 +322,9 @@ static void kept_place(void)
     others++;
   CHECK(code == DMC_CLIENTS && others == 65535);
   pthread_mutex_unlock(&gate.lock);
-  CHECK(gate_enter(&gate, kept, &has_waited) == 0);
+  CHECK(enter_for(&gate, kept, 0, &has_waited) == 0);
   gate_leave(&gate);
-  CHECK(gate_enter(&gate, other, &has_waited) == ENOMEM);
+  CHECK(enter_for(&gate, other, 0, &has_waited) == ENOMEM);
   gate_close(&gate);
 }
 
@@ -275,8 +338,8 @@ static void changed(void)
   bool has_waited;
   CHECK(gate_open(&gate, &one_at_once) == 0 && gate_start(&gate) == 0);
   CHECK(gate_client(&gate, "a", &none, true, &client) == 0 && gate_client(&gate, "b", &none, false, &other) == 0);
-  CHECK(gate_enter(&gate, other, &has_waited) == 0);
-  struct entry first = {&gate, client, -1}, second = {&gate, client, -1};
+  CHECK(enter_for(&gate, other, 0, &has_waited) == 0);
+  struct entry first = {&gate, client, 0, -1}, second = {&gate, client, 0, -1};
   pthread_create(&threads[0], NULL, enter, &first);
   await_queued(&gate, client, 1);
   CHECK(gate_change(&gate, "a", &more, true) == 0 && client->is_changing && client->rates.reservation == 0);
@@ -327,8 +390,8 @@ static void resized(void)
   pthread_t thread;
   bool has_waited;
   CHECK(gate_open(&gate, &one_at_once) == 0 && gate_start(&gate) == 0 && gate_client(&gate, "a", &none, true, &client) == 0);
-  CHECK(gate_enter(&gate, client, &has_waited) == 0);
-  struct entry entry = {&gate, client, -1};
+  CHECK(enter_for(&gate, client, 0, &has_waited) == 0);
+  struct entry entry = {&gate, client, 0, -1};
   pthread_create(&thread, NULL, enter, &entry);
   await_queued(&gate, client, 1);
   gate_resize(&gate, 2, 1);
@@ -354,7 +417,7 @@ static void *use(void *argument)
   struct rounds *rounds = argument;
   bool has_waited;
   for (unsigned i = 0; i < ROUNDS; i++) {
-    if (gate_enter(rounds->gate, rounds->client, &has_waited)) {
+    if (enter_for(rounds->gate, rounds->client, 0, &has_waited)) {
       rounds->refused++;
       continue;
     }
@@ -399,6 +462,321 @@ static void crowded(void)
   gate_close(&gate);
 }
 
+/* ---- requests that are given up */
+
+/* Whoever waits for requests, until it has gone. What it does when it is asked, if anything, is a test's. */
+struct guest {
+  struct waiter waiter;
+  struct gate *gate;
+  atomic_bool has_gone;
+  atomic_uint asked;
+  void (*when_asked)(struct guest *);
+};
+
+static bool is_here(struct waiter *waiter)
+{
+  struct guest *guest = (struct guest *)waiter;
+  if (guest->asked++ == 0 && guest->when_asked)
+    guest->when_asked(guest);
+  return !guest->has_gone;
+}
+
+/* A thread with a request of a guest. */
+struct call {
+  struct gate *gate;
+  struct client *client;
+  struct guest *guest;
+  uint32_t bytes;
+  int fault;
+  pthread_t thread;
+};
+
+static void *run_call(void *argument)
+{
+  struct call *call = argument;
+  call->fault = gate_enter(call->gate, call->client, call->bytes, &call->guest->waiter);
+  return NULL;
+}
+
+static void begin_call(struct call *call, struct gate *gate, struct client *client, struct guest *guest, uint32_t bytes)
+{
+  *call = (struct call){.gate = gate, .client = client, .guest = guest, .bytes = bytes, .fault = -1};
+  guest->gate = gate;
+  guest->waiter.is_wanted = is_here;
+  pthread_create(&call->thread, NULL, run_call, call);
+}
+
+/* Begins a call, and waits until its request is queued. */
+static void queue_call(struct call *call, struct gate *gate, struct client *client, struct guest *guest, uint32_t bytes)
+{
+  uint32_t before = queued(gate, client);
+  begin_call(call, gate, client, guest, bytes);
+  await_queued(gate, client, before + 1);
+}
+
+static int end_of(struct call *call)
+{
+  pthread_join(call->thread, NULL);
+  return call->fault;
+}
+
+/* How many requests the queue itself has. */
+static uint32_t queue_size(struct gate *gate)
+{
+  uint32_t clients = 0, requests = 0;
+  pthread_mutex_lock(&gate->lock);
+  CHECK(dmc_queue_counts(&gate->queue, &clients, &requests) == DMC_OK);
+  pthread_mutex_unlock(&gate->lock);
+  return requests;
+}
+
+/* One of three that wait is given up: it leaves the queue, and the others are granted. */
+static void given_up(void)
+{
+  struct gate gate = {0};
+  struct client *client;
+  struct rates none = rates_of(0, 1, 0);
+  struct guest guests[3] = {{.gate = NULL}};
+  struct call calls[3];
+  bool has_waited;
+  CHECK(gate_open(&gate, &one_at_once) == 0 && gate_start(&gate) == 0 && gate_client(&gate, "a", &none, true, &client) == 0);
+  CHECK(enter_for(&gate, client, 0, &has_waited) == 0);
+  for (int i = 0; i < 3; i++)
+    queue_call(&calls[i], &gate, client, &guests[i], 0);
+  guests[1].has_gone = true;
+  CHECK(end_of(&calls[1]) == ECANCELED && client->cancelled == 1);
+  await_queued(&gate, client, 2);
+  CHECK(queue_size(&gate) == 2 && gate.queued == 2 && gate.given_up == 0);
+  gate_leave(&gate);
+  CHECK(end_of(&calls[0]) == 0 && guests[0].asked > 0);
+  gate_leave(&gate);
+  CHECK(end_of(&calls[2]) == 0);
+  gate_leave(&gate);
+  CHECK(client->requests == 4 && client->grants[DMC_PRIORITY] == 3 && client->waited.count == 3 && gate.under_way == 0);
+  gate_close(&gate);
+}
+
+/* When the next request is due, once the gate has nothing to do before. */
+static uint64_t next_due(struct gate *gate)
+{
+  uint64_t due = 0;
+  while (due <= gate_now(gate)) {
+    usleep(1000);
+    pthread_mutex_lock(&gate->lock);
+    due = gate->due;
+    pthread_mutex_unlock(&gate->lock);
+  }
+  return due;
+}
+
+/* Has the gate look now: it asks those who wait, or if any have gone it cancels what they waited for. */
+static void look_now(struct gate *gate)
+{
+  pthread_mutex_lock(&gate->lock);
+  gate->next_look = 0;
+  pthread_cond_signal(&gate->timer_wakes);
+  pthread_mutex_unlock(&gate->lock);
+}
+
+static void await_given_up(struct gate *gate, uint32_t count)
+{
+  uint32_t given_up = 0;
+  while (given_up != count) {
+    usleep(1000);
+    pthread_mutex_lock(&gate->lock);
+    given_up = gate->given_up;
+    pthread_mutex_unlock(&gate->lock);
+  }
+}
+
+/* Requests that are given up are not charged: at a limit at which each takes a minute, the one behind seven of them is due after a minute
+   and not after eight. They may be of one waiter or of several. */
+static void given_back(bool is_one_waiter)
+{
+  enum { GONE = 7 };
+  struct gate gate = {0};
+  struct client *client;
+  struct rates once = rates_of(0, 1, 1);
+  struct gate_config config = one_at_once;
+  struct guest guests[GONE + 1] = {{.gate = NULL}};
+  struct call calls[GONE + 1];
+  uint64_t minute = 60 * (uint64_t)1000000000;
+  config.unit = 512;
+  config.slice = 60 * minute; /* so that the gate looks when the test has it look */
+  CHECK(gate_open(&gate, &config) == 0 && gate_start(&gate) == 0 && gate_client(&gate, "a", &once, true, &client) == 0);
+  for (int i = 0; i < GONE; i++)
+    queue_call(&calls[i], &gate, client, &guests[is_one_waiter ? 0 : i], 60 * 512);
+  queue_call(&calls[GONE], &gate, client, &guests[GONE], 60 * 512);
+  for (int i = 0; i < GONE; i++)
+    guests[i].has_gone = true;
+  look_now(&gate);
+  await_given_up(&gate, GONE);
+  look_now(&gate);
+  await_queued(&gate, client, 1);
+  uint64_t due = next_due(&gate);
+  CHECK(minute - 1000000 < due && due < minute + minute / 2);
+  for (int i = 0; i < GONE; i++)
+    CHECK(end_of(&calls[i]) == ECANCELED);
+  CHECK(client->cancelled == GONE && client->requests == GONE + 1 && queue_size(&gate) == 1);
+  gate_stop(&gate, ESHUTDOWN);
+  CHECK(end_of(&calls[GONE]) == ESHUTDOWN);
+  gate_close(&gate);
+}
+
+static void leave_when_asked(struct guest *guest)
+{
+  gate_leave(guest->gate);
+  guest->has_gone = true;
+}
+
+static void stop_when_asked(struct guest *guest)
+{
+  gate_stop(guest->gate, ESHUTDOWN);
+  guest->has_gone = true;
+}
+
+/* A request that is granted, or the gate that is stopped, between the question and the cancel. The place at the device is given back. */
+static void overtaken(void (*when_asked)(struct guest *), int fault, uint64_t grants)
+{
+  struct gate gate = {0};
+  struct client *client;
+  struct rates none = rates_of(0, 1, 0);
+  struct guest guest = {.when_asked = when_asked};
+  struct call call;
+  bool has_waited;
+  CHECK(gate_open(&gate, &one_at_once) == 0 && gate_start(&gate) == 0 && gate_client(&gate, "a", &none, true, &client) == 0);
+  CHECK(enter_for(&gate, client, 0, &has_waited) == 0);
+  queue_call(&call, &gate, client, &guest, 0);
+  CHECK(end_of(&call) == fault);
+  CHECK(client->grants[DMC_PRIORITY] == grants && client->cancelled == 0 && client->requests == 2);
+  CHECK(gate.under_way == (grants == 2 ? 0 : 1));
+  gate_close(&gate);
+}
+
+static bool is_changing(struct gate *gate, const struct client *client)
+{
+  pthread_mutex_lock(&gate->lock);
+  bool is_changing = client->is_changing;
+  pthread_mutex_unlock(&gate->lock);
+  return is_changing;
+}
+
+/* A client gets its new rates once its queued requests are given up, and who waits for that may go too. */
+static void changed_when_given_up(void)
+{
+  struct gate gate = {0};
+  struct client *client, *other;
+  struct rates none = rates_of(0, 1, 0), more = rates_of(1000, 2, 0);
+  struct guest guests[3] = {{.gate = NULL}};
+  struct call first, second, third;
+  bool has_waited;
+  CHECK(gate_open(&gate, &one_at_once) == 0 && gate_start(&gate) == 0);
+  CHECK(gate_client(&gate, "a", &none, true, &client) == 0 && gate_client(&gate, "b", &none, false, &other) == 0);
+  CHECK(enter_for(&gate, other, 0, &has_waited) == 0);
+  queue_call(&first, &gate, client, &guests[0], 0);
+  CHECK(gate_change(&gate, "a", &more, true) == 0 && client->is_changing);
+  begin_call(&second, &gate, client, &guests[1], 0);
+  begin_call(&third, &gate, client, &guests[2], 0);
+  guests[1].has_gone = true;
+  CHECK(end_of(&second) == ECANCELED && queued(&gate, client) == 1 && client->requests == 1 && client->cancelled == 0);
+  guests[0].has_gone = true;
+  CHECK(end_of(&first) == ECANCELED && client->cancelled == 1);
+  while (is_changing(&gate, client))
+    usleep(1000);
+  await_queued(&gate, client, 1);
+  CHECK(client->rates.reservation == more.reservation && client->requests == 2);
+  gate_leave(&gate);
+  CHECK(end_of(&third) == 0 && client->grants[DMC_RESERVATION] + client->grants[DMC_PRIORITY] == 1);
+  gate_leave(&gate);
+  gate_close(&gate);
+}
+
+/* If the queue does not have a request that waits, nothing is granted any more, and the reason is known. */
+static void lost_in_queue(void)
+{
+  struct gate gate = {0};
+  struct client *client;
+  struct rates none = rates_of(0, 1, 0);
+  struct guest guests[2] = {{.gate = NULL}};
+  struct call calls[2];
+  uint32_t removed = 0;
+  bool has_waited;
+  CHECK(gate_open(&gate, &one_at_once) == 0 && gate_start(&gate) == 0 && gate_client(&gate, "a", &none, true, &client) == 0);
+  CHECK(enter_for(&gate, client, 0, &has_waited) == 0);
+  for (int i = 0; i < 2; i++)
+    queue_call(&calls[i], &gate, client, &guests[i], 0);
+  pthread_mutex_lock(&gate.lock);
+  CHECK(dmc_queue_remove(&gate.queue, client->id, &removed) == DMC_OK && removed == 2);
+  pthread_mutex_unlock(&gate.lock);
+  guests[0].has_gone = true;
+  CHECK(end_of(&calls[0]) == ECANCELED && end_of(&calls[1]) == EIO && gate.reason && client->cancelled == 1);
+  gate_close(&gate);
+}
+
+/* Whoever waits for a request of `restless` goes after it was asked this often. */
+struct restless {
+  struct waiter waiter;
+  struct rounds rounds;
+  unsigned asks_left, given_up;
+};
+
+static bool is_patient(struct waiter *waiter)
+{
+  struct restless *restless = (struct restless *)waiter;
+  return restless->asks_left && restless->asks_left--;
+}
+
+static void *come_and_go(void *argument)
+{
+  struct restless *restless = argument;
+  struct rounds *rounds = &restless->rounds;
+  for (unsigned i = 0; i < ROUNDS / 4; i++) {
+    restless->waiter = (struct waiter){.is_wanted = is_patient};
+    restless->asks_left = i % 4;
+    int fault = gate_enter(rounds->gate, rounds->client, 0, &restless->waiter);
+    CHECK(fault == 0 || fault == ECANCELED);
+    if (fault) {
+      restless->given_up++;
+      continue;
+    }
+    rounds->served++;
+    usleep(50);
+    gate_leave(rounds->gate);
+  }
+  return NULL;
+}
+
+/* Many threads whose requests are given up while others are granted: each is granted or cancelled once, and no place is lost. */
+static void restless(void)
+{
+  struct gate gate = {0};
+  struct gate_config config = one_at_once;
+  struct client *client;
+  struct rates none = rates_of(0, 1, 0);
+  struct restless restless[16];
+  pthread_t threads[16];
+  unsigned served = 0, given_up = 0;
+  config.slice = 20000;
+  CHECK(gate_open(&gate, &config) == 0 && gate_start(&gate) == 0 && gate_client(&gate, "a", &none, true, &client) == 0);
+  for (int i = 0; i < 16; i++) {
+    restless[i] = (struct restless){.rounds = {.gate = &gate, .client = client}};
+    pthread_create(&threads[i], NULL, come_and_go, &restless[i]);
+  }
+  for (int i = 0; i < 16; i++) {
+    pthread_join(threads[i], NULL);
+    served += restless[i].rounds.served;
+    given_up += restless[i].given_up;
+  }
+  await_queued(&gate, client, 0);
+  uint64_t grants = client->grants[DMC_PRIORITY];
+  CHECK(served + given_up == 16 * ROUNDS / 4 && client->requests == grants + client->cancelled);
+  CHECK(served <= grants && client->cancelled <= given_up && client->cancelled > 0 && served > 0);
+  CHECK(gate.queued == 0 && gate.given_up == 0 && gate.under_way == 0 && queue_size(&gate) == 0);
+  gate_close(&gate);
+}
+
+/* ---- names, shares and memory */
+
 /* A client of the default that nobody uses and that had no request is forgotten at once. */
 static void unused_names(void)
 {
@@ -413,7 +791,7 @@ static void unused_names(void)
   CHECK(gate_client(&gate, "b", &none, false, &another) == EBUSY);
   gate_release(&gate, client);
   CHECK(gate_client(&gate, "b", &none, false, &another) == 0 && gate.others == 1);
-  CHECK(gate_enter(&gate, another, &has_waited) == 0);
+  CHECK(enter_for(&gate, another, 0, &has_waited) == 0);
   gate_leave(&gate);
   gate_release(&gate, another);
   CHECK(gate_client(&gate, "a", &none, false, &client) == EBUSY && gate.others == 1);
@@ -442,7 +820,7 @@ static void *use_device(void *argument)
 {
   struct user *user = argument;
   bool has_waited;
-  while (!user->is_resting && gate_enter(user->gate, user->client, &has_waited) == 0) {
+  while (!user->is_resting && enter_for(user->gate, user->client, 0, &has_waited) == 0) {
     usleep(1000);
     gate_leave(user->gate);
   }
@@ -493,40 +871,52 @@ static uint64_t grants_of(const struct user *user)
   return grants;
 }
 
-/* How much of what is granted in the next half second goes to the first, in hundredths. */
-static uint64_t part_of_first(const struct pair *pair)
+/* Waits until a user has had so many further grants. */
+static void await_grants(const struct user *user, uint64_t count)
 {
-  uint64_t first = grants_of(&pair->first), second = grants_of(&pair->second);
-  usleep(500000);
-  first = grants_of(&pair->first) - first;
-  second = grants_of(&pair->second) - second;
-  return 100 * first / (first + second + 1);
+  uint64_t before = grants_of(user);
+  while (grants_of(user) < before + count)
+    usleep(1000);
 }
 
-/* The first is alone for a second at the device's depth, and the second comes. */
+/* How much of the next 400 grants goes to the first, in hundredths. */
+static uint64_t part_of_first(const struct pair *pair)
+{
+  uint64_t before_first = grants_of(&pair->first), before_second = grants_of(&pair->second), first = 0, second = 0;
+  while (first + second < 400) {
+    usleep(1000);
+    first = grants_of(&pair->first) - before_first;
+    second = grants_of(&pair->second) - before_second;
+  }
+  return 100 * first / (first + second);
+}
+
+/* The first is alone for 1000 grants at the device's depth, and the second comes. */
 static uint64_t newcomer(enum dmc_shares shares)
 {
   static struct pair pair;
   open_pair(&pair, shares);
   begin(&pair.first, 4);
-  sleep(1);
+  await_grants(&pair.first, 1000);
   begin(&pair.second, MOST_THREADS);
+  await_grants(&pair.second, 1);
   uint64_t part = part_of_first(&pair);
   close_pair(&pair);
   return part;
 }
 
-/* Both are busy, and the second pauses for a second, after which it is not idle. */
+/* Both are busy, and the second pauses for 1000 grants, after which it is not idle. */
 static uint64_t pause_of_second(enum dmc_shares shares)
 {
   static struct pair pair;
   open_pair(&pair, shares);
   begin(&pair.first, MOST_THREADS);
   begin(&pair.second, MOST_THREADS);
-  usleep(200000);
+  await_grants(&pair.second, 100);
   rest(&pair.second);
-  sleep(1);
+  await_grants(&pair.first, 1000);
   begin(&pair.second, MOST_THREADS);
+  await_grants(&pair.second, 1);
   uint64_t part = part_of_first(&pair);
   close_pair(&pair);
   return part;
@@ -559,14 +949,14 @@ static void refused_allocations(void)
     granted = needed++;
     int fault = gate_client(&gate, "a", &none, false, &client);
     if (!fault)
-      fault = gate_enter(&gate, client, &has_waited);
+      fault = enter_for(&gate, client, 0, &has_waited);
     is_done = granted != -1ul;
     granted = -1ul;
     CHECK(fault == (is_done ? 0 : ENOMEM));
     if (!client)
       CHECK(gate_client(&gate, "a", &none, false, &client) == 0);
     if (fault)
-      CHECK(gate_enter(&gate, client, &has_waited) == 0);
+      CHECK(enter_for(&gate, client, 0, &has_waited) == 0);
     CHECK(client->queued == 0 && client->requests == 1);
     gate_leave(&gate);
     gate_close(&gate);
@@ -580,6 +970,8 @@ int main(void)
   percentiles();
   waiting();
   due_later();
+  sizes();
+  limit_by_cost();
   over_limit();
   most_clients();
   forgotten();
@@ -588,6 +980,14 @@ int main(void)
   changed();
   kept_and_not();
   resized();
+  given_up();
+  given_back(true);
+  given_back(false);
+  overtaken(leave_when_asked, ECANCELED, 2);
+  overtaken(stop_when_asked, ESHUTDOWN, 1);
+  changed_when_given_up();
+  lost_in_queue();
+  restless();
   unused_names();
   shares();
   refused_allocations();

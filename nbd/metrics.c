@@ -33,19 +33,26 @@ static void put_each(FILE *text, const struct report *report, const char *name, 
 
 static uint64_t requests_of(const struct row *client) { return client->requests; }
 static uint64_t beyond_of(const struct row *client) { return client->beyond; }
+static uint64_t cancelled_of(const struct row *client) { return client->cancelled; }
 static uint64_t refused_of(const struct row *client) { return client->refused; }
 static uint64_t queued_of(const struct row *client) { return client->queued; }
 static uint64_t reservation_of(const struct row *client) { return client->rates.reservation; }
 static uint64_t weight_of(const struct row *client) { return client->rates.weight; }
 static uint64_t limit_of(const struct row *client) { return client->rates.limit; }
 
-static void put_grants(FILE *text, const struct report *report)
+static const uint64_t *grants_of(const struct row *client) { return client->grants; }
+static const uint64_t *costs_of(const struct row *client) { return client->costs; }
+static const uint64_t *bytes_of(const struct row *client) { return client->bytes; }
+
+/* A counter of each client and phase, which `numbers` reads. */
+static void put_phases(FILE *text, const struct report *report, const char *name, const char *help,
+                       const uint64_t *(*numbers)(const struct row *))
 {
-  put_head(text, "dmclock_granted_total", "counter", "Requests that were granted, by the phase of the grant.");
+  put_head(text, name, "counter", help);
   for (const struct row *client = report->rows; client < report->rows + report->count; client++)
     for (int phase = 0; phase < 2; phase++) {
-      put_client(text, "dmclock_granted_total", client);
-      fprintf(text, ",phase=\"%s\"} %" PRIu64 "\n", phases[phase], client->grants[phase]);
+      put_client(text, name, client);
+      fprintf(text, ",phase=\"%s\"} %" PRIu64 "\n", phases[phase], numbers(client)[phase]);
     }
 }
 
@@ -80,14 +87,17 @@ static void put_waits(FILE *text, const struct report *report)
 void metrics_put(FILE *text, const struct report *report)
 {
   put_each(text, report, "dmclock_requests_total", "counter", "Requests that were queued.", requests_of, false);
-  put_grants(text, report);
+  put_phases(text, report, "dmclock_granted_total", "Requests that were granted, by the phase of the grant.", grants_of);
+  put_phases(text, report, "dmclock_granted_cost_total", "What these requests cost.", costs_of);
+  put_phases(text, report, "dmclock_granted_bytes_total", "How many bytes these requests were for.", bytes_of);
   put_each(text, report, "dmclock_beyond_total", "counter", "Grants beyond the client's limit (dmclock-at-limit=allow).", beyond_of, false);
+  put_each(text, report, "dmclock_cancelled_total", "counter", "Requests whose connection went while they were queued.", cancelled_of, false);
   put_each(text, report, "dmclock_refused_total", "counter", "Requests over the client's limit (dmclock-at-limit=reject).", refused_of, false);
   put_waits(text, report);
   put_each(text, report, "dmclock_queued", "gauge", "Requests that wait.", queued_of, false);
-  put_each(text, report, "dmclock_reservation", "gauge", "The client's reservation, in requests a second.", reservation_of, true);
+  put_each(text, report, "dmclock_reservation", "gauge", "The client's reservation, in units of cost a second.", reservation_of, true);
   put_each(text, report, "dmclock_weight", "gauge", "The client's weight.", weight_of, true);
-  put_each(text, report, "dmclock_limit", "gauge", "The client's limit, in requests a second.", limit_of, true);
+  put_each(text, report, "dmclock_limit", "gauge", "The client's limit, in units of cost a second.", limit_of, true);
   put_head(text, "dmclock_depth", "gauge", "How many requests the device may have at once.");
   fprintf(text, "dmclock_depth %" PRIu32 "\n", report->depth);
   put_head(text, "dmclock_under_way", "gauge", "How many requests the device has.");

@@ -19,8 +19,10 @@ void report_free(struct report *report)
 static bool copy_row(struct row *row, const struct client *client)
 {
   *row = (struct row){.name = strdup(client->name), .rates = client->rates, .requests = client->requests, .beyond = client->beyond,
-                      .refused = client->refused, .queued = client->queued, .waited = client->waited};
+                      .cancelled = client->cancelled, .refused = client->refused, .queued = client->queued, .waited = client->waited};
   memcpy(row->grants, client->grants, sizeof row->grants);
+  memcpy(row->costs, client->costs, sizeof row->costs);
+  memcpy(row->bytes, client->bytes, sizeof row->bytes);
   memcpy(row->buckets, client->buckets, sizeof row->buckets);
   return row->name != NULL;
 }

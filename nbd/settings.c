@@ -16,6 +16,8 @@
 #define MOST_MILLIS 1000000000u
 #define MOST_DEPTH (1u << 20)
 #define MOST_CLIENTS 65536
+#define MOST_BYTES (UINT64_C(1) << 62)
+#define LEAST_UNIT 512 /* a block: the queue's tags would reach their end within hours if each byte of great zeroes cost 1 */
 
 /* ---- values */
 
@@ -33,20 +35,37 @@ typedef char fault_text[FAULT_SIZE];
 
 #define FAULT(fault, ...) ((void)snprintf(fault, FAULT_SIZE, __VA_ARGS__), false)
 
-/* One field of RESERVATION:WEIGHT:LIMIT: a number from 1 to `most`, or `-` for none if there may be none. */
-static bool read_field(const char *name, const char *text, size_t length, uint32_t most, bool is_optional, uint32_t *rate, fault_text fault)
+/* A number from 1 to `most`, or bytes a second, such as 100MiB/s. */
+static bool read_rate(const char *text, size_t length, uint64_t most, struct typed_rate *rate)
 {
-  uint64_t number = 0;
-  bool is_none = is_optional && length == 1 && text[0] == '-';
-  if (!is_none && (!text_read_number(text, length, most, &number) || number == 0))
-    return FAULT(fault, "the %s \"%.*s\" is not a number from 1 to %u%s", name, length < 40 ? (int)length : 40, text, most,
-                 is_optional ? ", nor - for none" : "");
-  *rate = (uint32_t)number;
+  size_t suffix = strlen("/s");
+  rate->is_bytes = length > suffix && strncmp(text + length - suffix, "/s", suffix) == 0;
+  bool is_read = rate->is_bytes ? text_read_bytes(text, length - suffix, MOST_BYTES, &rate->number)
+                                : text_read_number(text, length, most, &rate->number);
+  return is_read && rate->number > 0;
+}
+
+/* The reservation or the limit: a rate, or `-` for none. */
+static bool read_optional(const char *name, const char *text, size_t length, uint32_t most, struct typed_rate *rate, fault_text fault)
+{
+  *rate = (struct typed_rate){0, false};
+  bool is_none = length == 1 && text[0] == '-';
+  return is_none || read_rate(text, length, most, rate) ||
+         FAULT(fault, "the %s \"%.*s\" is not a number from 1 to %u, nor bytes as 10MiB/s, nor - for none", name,
+               length < 40 ? (int)length : 40, text, most);
+}
+
+static bool read_weight(const char *text, size_t length, uint32_t *weight, fault_text fault)
+{
+  uint64_t number;
+  if (!text_read_number(text, length, MOST_WEIGHT, &number) || number == 0)
+    return FAULT(fault, "the weight \"%.*s\" is not a number from 1 to %u", length < 40 ? (int)length : 40, text, MOST_WEIGHT);
+  *weight = (uint32_t)number;
   return true;
 }
 
 /* RESERVATION:WEIGHT:LIMIT */
-static bool read_rates(const char *value, struct rates *rates, fault_text fault)
+static bool read_rates(const char *value, struct rates_setting *rates, fault_text fault)
 {
   size_t first = strcspn(value, ":");
   const char *weight = value + first + 1;
@@ -54,19 +73,42 @@ static bool read_rates(const char *value, struct rates *rates, fault_text fault)
     return FAULT(fault, "a field is missing");
   size_t second = strcspn(weight, ":");
   const char *limit = weight + second + 1;
-  return read_field("reservation", value, first, DMC_FINE_HZ, true, &rates->reservation, fault) &&
-         read_field("weight", weight, second, MOST_WEIGHT, false, &rates->weight, fault) &&
-         read_field("limit", limit, strlen(limit), UINT32_MAX, true, &rates->limit, fault);
+  return read_optional("reservation", value, first, DMC_FINE_HZ, &rates->reservation, fault) &&
+         read_weight(weight, second, &rates->weight, fault) &&
+         read_optional("limit", limit, strlen(limit), UINT32_MAX, &rates->limit, fault);
+}
+
+/* A rate in units of cost a second. One in bytes is rounded, up if it is the least that is asked for. */
+static uint64_t units_of(const struct typed_rate *rate, uint32_t unit, bool is_least)
+{
+  uint64_t rounded = is_least ? unit - 1 : 0;
+  return rate->is_bytes && unit ? (rate->number + rounded) / unit : rate->number;
+}
+
+/* The same as a rate of a queue, which is at most `most`. */
+static bool take_units(const char *name, const struct typed_rate *rate, uint32_t unit, bool is_least, uint32_t most, uint32_t *units,
+                       fault_text fault)
+{
+  uint64_t found = units_of(rate, unit, is_least);
+  if (rate->is_bytes && !unit)
+    return FAULT(fault, "the %s is in bytes, and there is no dmclock-unit", name);
+  if (most < found || (!found && rate->number))
+    return FAULT(fault, "the %s is not from 1 to %u units of dmclock-unit=%u a second", name, most, unit);
+  *units = (uint32_t)found;
+  return true;
 }
 
 /* Rates that the queue has, and that one client can have. */
-static bool take_rates(const char *value, struct rates *asked, struct rates *found, fault_text fault)
+static bool find_rates(struct rates_setting *rates, uint32_t unit, fault_text fault)
 {
-  if (!read_rates(value, asked, fault))
+  struct rates *asked = &rates->asked;
+  asked->weight = rates->weight;
+  if (!take_units("reservation", &rates->reservation, unit, true, DMC_FINE_HZ, &asked->reservation, fault) ||
+      !take_units("limit", &rates->limit, unit, false, UINT32_MAX, &asked->limit, fault))
     return false;
   if (asked->limit && asked->limit < asked->reservation)
     return FAULT(fault, "the reservation %u is above the limit %u", asked->reservation, asked->limit);
-  return rates_round(asked, found) || FAULT(fault, "the queue has no such rate");
+  return rates_round(asked, &rates->found) || FAULT(fault, "the queue has no such rate");
 }
 
 /* Where the last three fields of NAME:RESERVATION:WEIGHT:LIMIT begin; a name may have colons. NULL if there are none. */
@@ -105,7 +147,7 @@ static int is_bad(const struct settings *settings, const char *key, const char *
 static int is_faulty(const struct settings *settings, const char *key, const char *value, const char *fault, const char *wanted)
 {
   char printable[PRINTABLE_SIZE];
-  say_error(settings, "%s=%s: %s; wanted is %s, in requests a second", key, text_printable(value, printable), fault, wanted);
+  say_error(settings, "%s=%s: %s; wanted is %s, in requests a second, or in bytes, as 10MiB/s", key, text_printable(value, printable), fault, wanted);
   return -1;
 }
 
@@ -130,13 +172,17 @@ static int add_client(struct settings *settings, const char *key, const char *va
   struct client_setting client = {0};
   fault_text fault = "a field is missing";
   const char *fields = last_fields(value);
-  if (!fields || !take_rates(fields, &client.asked, &client.found, fault))
+  if (!fields || !read_rates(fields, &client.rates, fault))
     return is_faulty(settings, key, value, fault, "NAME:RESERVATION:WEIGHT:LIMIT");
+  client.rates.line = settings->line;
+  client.rates.value = strdup(value);
   client.name = strndup(value, (size_t)(fields - 1 - value));
   struct client_setting *kept = malloc(sizeof *kept);
-  if (!client.name || !kept || settings_have(settings, client.name)) {
-    int result = is_bad(settings, key, value, client.name && kept ? "a name that no other client has" : "more memory");
+  bool is_made = client.name && client.rates.value && kept;
+  if (!is_made || settings_have(settings, client.name)) {
+    int result = is_bad(settings, key, value, is_made ? "a name that no other client has" : "more memory");
     free(client.name);
+    free(client.rates.value);
     free(kept);
     return result;
   }
@@ -150,8 +196,12 @@ static int set_default(struct settings *settings, const char *key, const char *v
   if (settings->has_default)
     return is_bad(settings, key, value, "one default");
   fault_text fault;
-  if (!take_rates(value, &settings->asked, &settings->found, fault))
+  if (!read_rates(value, &settings->others, fault))
     return is_faulty(settings, key, value, fault, "RESERVATION:WEIGHT:LIMIT");
+  settings->others.line = settings->line;
+  settings->others.value = strdup(value);
+  if (!settings->others.value)
+    return is_bad(settings, key, value, "more memory");
   settings->has_default = true;
   return 1;
 }
@@ -171,6 +221,15 @@ static int set_shared(struct settings *settings, const char *key, const char *va
   if (shared == -1)
     return is_bad(settings, key, value, "true or false");
   settings->is_shared = shared;
+  return 1;
+}
+
+static int set_unit(struct settings *settings, const char *key, const char *value)
+{
+  uint64_t unit;
+  if (!text_read_bytes(value, strlen(value), UINT32_MAX, &unit) || (unit && unit < LEAST_UNIT))
+    return is_bad(settings, key, value, "512 bytes or more, as 4096 or 4KiB, or 0 if each request costs 1");
+  settings->gate.unit = (uint32_t)unit;
   return 1;
 }
 
@@ -216,7 +275,8 @@ static int set_seconds(const struct settings *settings, uint64_t *seconds, const
 
 static int set_capacity(struct settings *settings, const char *key, const char *value)
 {
-  return read_count(value, UINT32_MAX, &settings->capacity) ? 1 : is_bad(settings, key, value, "1 to 4294967295 requests a second");
+  return read_rate(value, strlen(value), UINT32_MAX, &settings->capacity)
+           ? 1 : is_bad(settings, key, value, "1 to 4294967295 requests a second, or bytes, as 10MiB/s");
 }
 
 static int set_path(const struct settings *settings, char **path, const char *key, const char *value)
@@ -246,6 +306,8 @@ int settings_read(struct settings *settings, const char *key, const char *value)
     return set_default_clients(settings, key, value);
   if (strcmp(key, "dmclock-default-shared") == 0)
     return set_shared(settings, key, value);
+  if (strcmp(key, "dmclock-unit") == 0)
+    return set_unit(settings, key, value);
   if (strcmp(key, "dmclock-depth") == 0)
     return set_depth(settings, key, value);
   if (strcmp(key, "dmclock-at-limit") == 0)
@@ -265,7 +327,7 @@ int settings_read(struct settings *settings, const char *key, const char *value)
   if (strcmp(key, "dmclock-config") == 0)
     return set_config(settings, key, value);
   if (strncmp(key, "dmclock-", strlen("dmclock-")) == 0)
-    return is_bad(settings, key, value, "another key: dmclock-client, -default, -default-clients, -default-shared, -depth, -at-limit, -shares, -idle, -erase, "
+    return is_bad(settings, key, value, "another key: dmclock-client, -default, -default-clients, -default-shared, -unit, -depth, -at-limit, -shares, -idle, -erase, "
                                  "-capacity, -stats, -metrics or -config");
   return 0;
 }
@@ -326,6 +388,33 @@ bool settings_read_file(struct settings *settings)
   return is_read;
 }
 
+/* ---- the rates of all settings */
+
+/* Finds the rates of a setting; an error names the line that it is in. */
+static bool find_setting(struct settings *settings, const char *key, struct rates_setting *rates)
+{
+  char printable[PRINTABLE_SIZE];
+  fault_text fault;
+  bool is_found = find_rates(rates, settings->gate.unit, fault);
+  settings->line = rates->line;
+  if (!is_found)
+    say_error(settings, "%s=%s: %s", key, text_printable(rates->value, printable), fault);
+  settings->line = 0;
+  return is_found;
+}
+
+bool settings_find_rates(struct settings *settings)
+{
+  if (settings->capacity.is_bytes && !settings->gate.unit)
+    return is_bad(settings, "dmclock-capacity", "bytes", "a number, since there is no dmclock-unit") > 0;
+  for (struct client_setting *client = settings->clients; client; client = client->next)
+    if (!find_setting(settings, "dmclock-client", &client->rates))
+      return false;
+  return !settings->has_default || find_setting(settings, "dmclock-default", &settings->others);
+}
+
+/* ---- copies */
+
 static bool copy_text(const char *text, char **copy)
 {
   *copy = text ? strdup(text) : NULL;
@@ -340,16 +429,17 @@ static bool copy_client(struct settings *copy, const struct client_setting *clie
   *made = *client;
   made->next = NULL;
   append(copy, made);
-  return copy_text(client->name, &made->name);
+  made->rates.value = NULL; /* if the name can't be copied */
+  return copy_text(client->name, &made->name) && copy_text(client->rates.value, &made->rates.value);
 }
 
 bool settings_copy(const struct settings *settings, struct settings *copy)
 {
   *copy = *settings;
   copy->clients = NULL;
-  copy->stats = copy->metrics = copy->config = NULL;
+  copy->stats = copy->metrics = copy->config = copy->others.value = NULL;
   bool is_copied = copy_text(settings->stats, &copy->stats) && copy_text(settings->metrics, &copy->metrics) &&
-                   copy_text(settings->config, &copy->config);
+                   copy_text(settings->config, &copy->config) && copy_text(settings->others.value, &copy->others.value);
   for (const struct client_setting *client = settings->clients; is_copied && client; client = client->next)
     is_copied = copy_client(copy, client);
   if (!is_copied)
@@ -387,6 +477,7 @@ bool settings_may_follow(const struct settings *settings, const struct settings 
   bool is_same_at_limit = settings->gate.at_limit == others->gate.at_limit && settings->gate.threshold_millis == others->gate.threshold_millis;
   const char *key = !is_same_at_limit                                            ? "dmclock-at-limit"
                     : settings->gate.shares != others->gate.shares               ? "dmclock-shares"
+                    : settings->gate.unit != others->gate.unit                   ? "dmclock-unit"
                     : settings->gate.idle_seconds != others->gate.idle_seconds   ? "dmclock-idle"
                     : settings->gate.erase_seconds != others->gate.erase_seconds ? "dmclock-erase"
                     : settings->is_shared != others->is_shared                   ? "dmclock-default-shared"
@@ -404,23 +495,24 @@ bool settings_may_follow(const struct settings *settings, const struct settings 
 static uint64_t reserved(const struct settings *settings)
 {
   uint64_t others = !settings->has_default ? 0 : settings->is_shared ? 1 : settings->gate.most_others;
-  uint64_t sum = others * settings->found.reservation;
+  uint64_t sum = others * settings->others.found.reservation;
   for (const struct client_setting *client = settings->clients; client; client = client->next)
-    sum += client->found.reservation;
+    sum += client->rates.found.reservation;
   return sum;
 }
 
 static void warn_of_capacity(const struct settings *settings)
 {
-  uint64_t sum = reserved(settings);
-  if (settings->capacity && settings->capacity < sum)
-    nbdkit_error("dmclock: warning: the reservations are %llu requests a second, and dmclock-capacity is %llu: not all can be met%s",
-                 (unsigned long long)sum, (unsigned long long)settings->capacity,
-                 settings->has_default && settings->found.reservation && !settings->is_shared
+  uint64_t sum = reserved(settings), capacity = units_of(&settings->capacity, settings->gate.unit, false);
+  if (settings->capacity.number && capacity < sum)
+    nbdkit_error("dmclock: warning: the reservations are %llu %s a second, and dmclock-capacity is %llu: not all can be met%s",
+                 (unsigned long long)sum, settings->gate.unit ? "units" : "requests", (unsigned long long)capacity,
+                 settings->has_default && settings->others.found.reservation && !settings->is_shared
                    ? " (dmclock-default counts for each of dmclock-default-clients)" : "");
 }
 
-static void print_rate(const char *name, uint32_t asked, uint32_t found)
+/* A rate, and what was asked if that is another. With a unit it is said in bytes a second, too. */
+static void print_rate(const char *name, uint32_t asked, uint32_t found, uint32_t unit)
 {
   if (!asked)
     fprintf(stderr, ", no %s", name);
@@ -428,24 +520,26 @@ static void print_rate(const char *name, uint32_t asked, uint32_t found)
     fprintf(stderr, ", %s %u", name, found);
   else
     fprintf(stderr, ", %s %u for %u", name, found, asked);
+  if (asked && unit)
+    fprintf(stderr, " (%.1f MiB/s)", (double)found * unit / (1 << 20));
 }
 
-static void print_rates(const char *name, const struct rates *asked, const struct rates *found)
+static void print_rates(const char *name, const struct rates_setting *rates, uint32_t unit)
 {
   char printable[PRINTABLE_SIZE];
   fprintf(stderr, "dmclock: %s", text_printable(name, printable));
-  print_rate("reservation", asked->reservation, found->reservation);
-  print_rate("weight", asked->weight, found->weight);
-  print_rate("limit", asked->limit, found->limit);
+  print_rate("reservation", rates->asked.reservation, rates->found.reservation, unit);
+  print_rate("weight", rates->asked.weight, rates->found.weight, 0);
+  print_rate("limit", rates->asked.limit, rates->found.limit, unit);
   fprintf(stderr, "\n");
 }
 
 void settings_print(const struct settings *settings)
 {
   for (const struct client_setting *client = settings->clients; client; client = client->next)
-    print_rates(client->name, &client->asked, &client->found);
+    print_rates(client->name, &client->rates, settings->gate.unit);
   if (settings->has_default)
-    print_rates(settings->is_shared ? "other names together" : "other names, each", &settings->asked, &settings->found);
+    print_rates(settings->is_shared ? "other names together" : "other names, each", &settings->others, settings->gate.unit);
   warn_of_capacity(settings);
 }
 
@@ -455,10 +549,12 @@ void settings_free(struct settings *settings)
     struct client_setting *client = settings->clients;
     settings->clients = client->next;
     free(client->name);
+    free(client->rates.value);
     free(client);
   }
   free(settings->stats);
   free(settings->metrics);
   free(settings->config);
-  settings->stats = settings->metrics = settings->config = NULL;
+  free(settings->others.value);
+  settings->stats = settings->metrics = settings->config = settings->others.value = NULL;
 }

@@ -4,10 +4,25 @@
 
 #include "gate.h"
 
+/* A rate as it was typed: so many units of cost a second, or bytes a second. 0 is none. */
+struct typed_rate {
+  uint64_t number;
+  bool is_bytes;
+};
+
+/* RESERVATION:WEIGHT:LIMIT as it was typed, in units of cost, and as the queue has it. */
+struct rates_setting {
+  char *value;                 /* of the key, for errors */
+  struct typed_rate reservation, limit;
+  uint32_t weight;
+  struct rates asked, found;
+  unsigned line;               /* of the file that it is in; 0 if it is of the command line */
+};
+
 /* A client of dmclock-client=NAME:RESERVATION:WEIGHT:LIMIT. */
 struct client_setting {
   char *name;
-  struct rates asked, found;
+  struct rates_setting rates;
   struct client_setting *next;
 };
 
@@ -15,16 +30,22 @@ struct settings {
   struct gate_config gate;
   struct client_setting *clients;
   bool has_default, is_shared; /* whether other names are taken, and whether all of them are one client */
-  struct rates asked, found;   /* of dmclock-default */
-  uint64_t capacity;           /* requests a second, or 0 */
+  struct rates_setting others; /* of dmclock-default */
+  struct typed_rate capacity;
   char *stats, *metrics;       /* files, or NULL */
   char *config;                /* a file with further settings, or NULL */
   unsigned line;               /* the line of that file which is read; 0 if none is */
 };
 
+/* A connection that goes is known to have gone after at most this many nanoseconds, and its requests are cancelled after as many again.
+   So its client may be back at once and hardly waits for them; and one thread of each connection with waiting requests wakes ten times
+   a second, which takes little time. */
+#define SLICE 100000000u
+
 /* What holds if no key says otherwise. */
 #define SETTINGS_DEFAULT \
-  { .gate = {.depth = 4, .at_limit = DMC_WAIT, .shares = DMC_VIRTUAL, .idle_seconds = 5, .erase_seconds = 900, .most_others = 1000} }
+  { .gate = {.depth = 4, .at_limit = DMC_WAIT, .shares = DMC_VIRTUAL, .idle_seconds = 5, .erase_seconds = 900, .most_others = 1000, \
+             .slice = SLICE} }
 
 /* Reads a key and its value. Returns 1 if the key is one of the filter, 0 if it is not, and -1 after an error that names the key and
    the value, and says what is wrong with it. */
@@ -33,6 +54,10 @@ int settings_read(struct settings *, const char *key, const char *value);
 /* Reads the file of the settings, if there is one: a setting a line, KEY=VALUE; an empty line, and one that begins with #, says
    nothing. False after an error that names the line. */
 bool settings_read_file(struct settings *);
+
+/* Finds the rates that the queue has for those that were typed, once all settings are read: bytes are counted in dmclock-unit. False
+   after an error that names the client, and the line that it is in. */
+bool settings_find_rates(struct settings *);
 
 /* Makes a copy that is freed by itself. False if memory is short. */
 bool settings_copy(const struct settings *, struct settings *copy);

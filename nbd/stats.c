@@ -9,8 +9,12 @@ static void put_row(FILE *text, const struct row *client, double seconds)
   const struct times *waited = &client->waited;
   fprintf(text, "{\"seconds\": %.3f, \"client\": ", seconds);
   text_put_json(text, client->name);
-  fprintf(text, ", \"requests\": %" PRIu64 ", \"refused\": %" PRIu64 ", \"reservation\": %" PRIu64 ", \"priority\": %" PRIu64 ", \"queued\": %" PRIu32,
-          client->requests, client->refused, client->grants[DMC_RESERVATION], client->grants[DMC_PRIORITY], client->queued);
+  fprintf(text, ", \"requests\": %" PRIu64 ", \"refused\": %" PRIu64 ", \"cancelled\": %" PRIu64, client->requests, client->refused,
+          client->cancelled);
+  fprintf(text, ", \"reservation\": %" PRIu64 ", \"priority\": %" PRIu64 ", \"queued\": %" PRIu32, client->grants[DMC_RESERVATION],
+          client->grants[DMC_PRIORITY], client->queued);
+  fprintf(text, ", \"cost\": %" PRIu64 ", \"bytes\": %" PRIu64, client->costs[DMC_RESERVATION] + client->costs[DMC_PRIORITY],
+          client->bytes[DMC_RESERVATION] + client->bytes[DMC_PRIORITY]);
   fprintf(text, ", \"wait_mean_us\": %.1f, \"wait_p99_us\": %.1f, \"wait_most_us\": %.1f}\n", (double)times_mean(waited) / 1e3,
           (double)times_percentile(waited, 99) / 1e3, (double)waited->greatest / 1e3);
 }

@@ -79,3 +79,28 @@ bool text_read_number(const char *text, size_t length, uint64_t most, uint64_t *
   *number = value;
   return length > 0;
 }
+
+/* How many bytes a suffix stands for; 0 if it is none. */
+static uint64_t bytes_of(const char *suffix, size_t length)
+{
+  static const struct {
+    const char *name;
+    uint64_t bytes;
+  } suffixes[] = {{"", 1}, {"B", 1}, {"kB", 1000}, {"KiB", 1 << 10}, {"MB", 1000000}, {"MiB", 1 << 20}, {"GB", 1000000000}, {"GiB", 1 << 30}};
+  for (size_t i = 0; i < sizeof suffixes / sizeof *suffixes; i++)
+    if (strlen(suffixes[i].name) == length && strncmp(suffixes[i].name, suffix, length) == 0)
+      return suffixes[i].bytes;
+  return 0;
+}
+
+bool text_read_bytes(const char *text, size_t length, uint64_t most, uint64_t *bytes)
+{
+  size_t digits = 0;
+  while (digits < length && '0' <= text[digits] && text[digits] <= '9')
+    digits++;
+  uint64_t each = bytes_of(text + digits, length - digits);
+  if (!each || !text_read_number(text, digits, most / each, bytes))
+    return false;
+  *bytes *= each;
+  return true;
+}

@@ -23,4 +23,8 @@ const char *text_printable(const char *name, char text[PRINTABLE_SIZE]);
 /* Reads a number of decimal digits alone. False if it has other characters or none, or is more than `most`. */
 bool text_read_number(const char *text, size_t length, uint64_t most, uint64_t *number);
 
+/* Reads a number of bytes: decimal digits, and after them nothing, or B, kB, KiB, MB, MiB, GB or GiB. False if it is anything else, or
+   more than `most`. */
+bool text_read_bytes(const char *text, size_t length, uint64_t most, uint64_t *bytes);
+
 #endif

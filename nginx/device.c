@@ -1,6 +1,6 @@
-/* A device for tests and measures, over HTTP: device PORT SLOTS MICROSECONDS. It serves SLOTS requests at once, each for so long, in
- * the order in which they come, and answers each with "ok". Each connection has a thread. A slot is busy by the clock: who wakes late
- * does not make the device slower. */
+/* A device for tests and measures, over HTTP: device PORT SLOTS MICROSECONDS [MORE]. It serves SLOTS requests at once, each for so long,
+ * and for MORE microseconds for each 4 KiB of its body, in the order in which they come, and answers each with "ok". Each connection has a
+ * thread. A slot is busy by the clock: who wakes late does not make the device slower. */
 #define _GNU_SOURCE
 #include <arpa/inet.h>
 #include <errno.h>
@@ -19,7 +19,7 @@
 static pthread_mutex_t lock = PTHREAD_MUTEX_INITIALIZER;
 static uint64_t free_at[MOST_SLOTS]; /* when each slot is free */
 static unsigned slots;
-static uint64_t service;             /* nanoseconds of a request */
+static uint64_t service, more;       /* nanoseconds of a request, and of each 4 KiB of its body */
 
 static uint64_t now(void)
 {
@@ -28,8 +28,8 @@ static uint64_t now(void)
   return (uint64_t)time.tv_sec * SECOND + (uint64_t)time.tv_nsec;
 }
 
-/* Takes the slot that is free first, and returns when it has served the request. */
-static uint64_t take_slot(void)
+/* Takes the slot that is free first, and returns when it has served a request with a body of this length. */
+static uint64_t take_slot(size_t body)
 {
   unsigned first = 0;
   pthread_mutex_lock(&lock);
@@ -37,7 +37,7 @@ static uint64_t take_slot(void)
   for (unsigned slot = 1; slot < slots; slot++)
     if (free_at[slot] < free_at[first])
       first = slot;
-  uint64_t end = (free_at[first] > start ? free_at[first] : start) + service;
+  uint64_t end = (free_at[first] > start ? free_at[first] : start) + service + (body + 4095) / 4096 * more;
   free_at[first] = end;
   pthread_mutex_unlock(&lock);
   return end;
@@ -57,15 +57,17 @@ static size_t body_length(const char *head)
   return field ? strtoul(field + strlen("\r\ncontent-length:"), NULL, 10) : 0;
 }
 
-/* Reads a request; what came behind it stays. False at the end of the connection. */
-static int read_request(int socket, char *buffer, size_t room, size_t *held)
+/* Reads a request, and the length of its body; what came behind it stays. False at the end of the connection. */
+static int read_request(int socket, char *buffer, size_t room, size_t *held, size_t *body)
 {
   size_t wanted = 0;
   for (;;) {
     buffer[*held] = 0;
     char *end = wanted ? NULL : strstr(buffer, "\r\n\r\n");
-    if (end)
-      wanted = (size_t)(end + 4 - buffer) + body_length(buffer);
+    if (end) {
+      *body = body_length(buffer);
+      wanted = (size_t)(end + 4 - buffer) + *body;
+    }
     if (wanted && *held >= wanted)
       break;
     size_t gone = wanted && *held == room ? room / 2 : 0; /* of a long body, which nobody looks at */
@@ -87,9 +89,9 @@ static void *serve(void *argument)
   enum { ROOM = 65536 };
   int socket = (int)(intptr_t)argument;
   char *buffer = malloc(ROOM + 1);
-  size_t held = 0;
-  while (buffer && read_request(socket, buffer, ROOM, &held)) {
-    wait_until(take_slot());
+  size_t held = 0, body = 0;
+  while (buffer && read_request(socket, buffer, ROOM, &held, &body)) {
+    wait_until(take_slot(body));
     if (send(socket, response, sizeof response - 1, MSG_NOSIGNAL) < 0)
       break;
   }
@@ -111,12 +113,13 @@ static int listen_at(const char *port)
 
 int main(int count, char **words)
 {
-  slots = count == 4 ? (unsigned)atoi(words[2]) : 0;
+  slots = count == 4 || count == 5 ? (unsigned)atoi(words[2]) : 0;
   if (slots < 1 || MOST_SLOTS < slots) {
-    fprintf(stderr, "device PORT SLOTS MICROSECONDS\n");
+    fprintf(stderr, "device PORT SLOTS MICROSECONDS [MORE]\n");
     return 2;
   }
   service = strtoull(words[3], NULL, 10) * 1000;
+  more = count == 5 ? strtoull(words[4], NULL, 10) * 1000 : 0;
   int listener = listen_at(words[1]), yes = 1;
   for (;;) {
     int socket = accept(listener, NULL, NULL);

@@ -7,7 +7,9 @@
 
 /* How many columns a count takes, filled up by blanks before it, as HTTP allows. */
 #define COUNT_COLUMNS 10
-#define ROOM (sizeof DELTA_HEADER ": 0123456789\r\n" RHO_HEADER ": 0123456789\r\n" - 1)
+#define COUNTING_LINE COUNTING_HEADER ": " COUNTING_ALL "\r\n"
+#define ROOM \
+  (sizeof DELTA_HEADER ": 0123456789\r\n" RHO_HEADER ": 0123456789\r\n" COST_HEADER ": 0123456789\r\n" COUNTING_LINE - 1)
 
 struct front_upstream {
   struct front_tracker *tracker;
@@ -20,6 +22,7 @@ struct passage {
   struct front_tracker *tracker;
   ngx_http_upstream_t *upstream;
   const char *name;               /* of the tenant */
+  uint32_t cost;
   u_char *delta, *rho;            /* where the counts are written; NULL if there is no room for them */
   struct try try;
   bool is_under_way;              /* whether the try has no outcome yet */
@@ -66,6 +69,28 @@ static u_char *put_header(u_char *to, const char *header, u_char **count)
   return ngx_cpymem(*count, "         0\r\n", COUNT_COLUMNS + 2);
 }
 
+/* Writes a count into its columns, with at least one digit. */
+static void write_count(u_char *at, uint32_t count)
+{
+  memset(at, ' ', COUNT_COLUMNS);
+  u_char *digit = at + COUNT_COLUMNS;
+  do
+    *--digit = (u_char)('0' + count % 10);
+  while (count /= 10);
+}
+
+/* Puts the lines of a stamp, whose counts are written later. */
+static u_char *put_stamp(u_char *to, struct passage *passage)
+{
+  u_char *cost;
+  to = put_header(to, DELTA_HEADER ": ", &passage->delta);
+  to = put_header(to, RHO_HEADER ": ", &passage->rho);
+  to = put_header(to, COST_HEADER ": ", &cost);
+  write_count(cost, passage->cost);
+  bool is_all = passage->tracker->tenants.counting == DMC_ALL;
+  return is_all ? ngx_cpymem(to, COUNTING_LINE, sizeof COUNTING_LINE - 1) : to;
+}
+
 /* Makes the head anew, with room for a stamp after its first line. It stays in the first buffer, where nginx expects it, and a
    further try sends that buffer again from its start. */
 static bool make_head(ngx_http_request_t *r, struct passage *passage)
@@ -76,24 +101,12 @@ static bool make_head(ngx_http_request_t *r, struct passage *passage)
   if (!start)
     return false;
   u_char *to = ngx_cpymem(start, head->start, line - head->start);
-  if (passage->tracker) {
-    to = put_header(to, DELTA_HEADER ": ", &passage->delta);
-    to = put_header(to, RHO_HEADER ": ", &passage->rho);
-  }
+  if (passage->tracker)
+    to = put_stamp(to, passage);
   to = copy_without_stamps(to, line, head->last);
   head->start = head->pos = start;
   head->last = head->end = to;
   return true;
-}
-
-/* Writes a count into its columns, with at least one digit. */
-static void write_count(u_char *at, uint32_t count)
-{
-  memset(at, ' ', COUNT_COLUMNS);
-  u_char *digit = at + COUNT_COLUMNS;
-  do
-    *--digit = (u_char)('0' + count % 10);
-  while (count /= 10);
 }
 
 /* ---- stamps */
@@ -109,13 +122,13 @@ static uint32_t server_of(const struct front_tracker *tracker, struct sockaddr *
   return server;
 }
 
-/* Stamps the request for the server that is selected. Without a stamp it counts for one there. */
+/* Stamps the request for the server that is selected. Without a stamp it counts its own cost there. */
 static void stamp(struct passage *passage, ngx_peer_connection_t *peer)
 {
   struct front_tracker *tracker = passage->tracker;
   uint32_t server = server_of(tracker, peer->sockaddr, peer->socklen);
-  struct dmc_stamp written = {1, 1};
-  passage->is_under_way = server < tracker->servers.nelts && tenants_begin(&tracker->tenants, passage->name, server, &passage->try);
+  struct dmc_stamp written = {passage->cost, passage->cost, passage->cost};
+  passage->is_under_way = server < tracker->servers.nelts && tenants_begin(&tracker->tenants, passage->name, server, passage->cost, &passage->try);
   if (passage->is_under_way)
     written = passage->try.stamp;
   else {
@@ -139,28 +152,44 @@ static const ngx_str_t *find_header(const ngx_list_part_t *part, const char *nam
   return NULL;
 }
 
-static const ngx_str_t *phase_of(const ngx_http_upstream_t *upstream)
+/* A header of the response; NULL if it has none of this name. */
+static const ngx_str_t *header_of(const ngx_http_upstream_t *upstream, const char *name)
 {
-  const ngx_str_t *phase = NULL;
-  for (const ngx_list_part_t *part = &upstream->headers_in.headers.part; part && !phase; part = part->next)
-    phase = find_header(part, PHASE_HEADER);
-  return phase;
+  const ngx_str_t *value = NULL;
+  for (const ngx_list_part_t *part = &upstream->headers_in.headers.part; part && !value; part = part->next)
+    value = find_header(part, name);
+  return value;
 }
 
-/* What became of a try. Without a connection, what nginx knows is of an earlier one. A request that was sent only in part is not in
-   the queue yet, if the server reads bodies before; a connection that was kept and ends without a response, in time, was closed before
-   the request came. Any other request without a response is in the queue, and is granted in its turn, whoever waits for it: it counts. */
+/* Whether a try has a response. Without a connection, what nginx knows is of an earlier one. */
+static bool has_response(const ngx_http_upstream_t *upstream, const ngx_peer_connection_t *peer)
+{
+  return peer->connection && upstream->request_sent && upstream->headers_in.status_n;
+}
+
+/* What became of a try. A request that was sent only in part is not in the queue yet, if the server reads bodies before; a connection that
+   was kept and ends without a response, in time, was closed before the request came. Any other request without a response has reached the
+   queue, which cancels it; if it was granted before, a later response says so. */
 static enum outcome outcome_of_try(const struct passage *passage, const ngx_peer_connection_t *peer, ngx_uint_t state)
 {
   const ngx_http_upstream_t *upstream = passage->upstream;
-  if (!peer->connection || !upstream->request_sent)
-    return OUTCOME_RETURNED;
-  if (upstream->headers_in.status_n) {
-    const ngx_str_t *phase = phase_of(upstream);
+  if (has_response(upstream, peer)) {
+    const ngx_str_t *phase = header_of(upstream, PHASE_HEADER);
     return phase ? outcome_of((const char *)phase->data, phase->len) : outcome_of(NULL, 0);
   }
+  if (!peer->connection || !upstream->request_sent || !upstream->request_body_sent)
+    return OUTCOME_RETURNED;
   bool is_closed_before = peer->cached && (state & NGX_PEER_FAILED) && !peer->connection->read->timedout;
-  return is_closed_before || !upstream->request_body_sent ? OUTCOME_RETURNED : OUTCOME_PRIORITY;
+  return is_closed_before ? OUTCOME_RETURNED : OUTCOME_EXPIRED;
+}
+
+/* Counts what the server says of abandoned requests of the tenant. */
+static void add_abandoned(struct passage *passage, const ngx_peer_connection_t *peer)
+{
+  uint32_t costs[2];
+  const ngx_str_t *abandoned = has_response(passage->upstream, peer) ? header_of(passage->upstream, ABANDONED_HEADER) : NULL;
+  if (abandoned && stamp_read_abandoned((const char *)abandoned->data, abandoned->len, costs))
+    tenants_add(&passage->tracker->tenants, &passage->try, costs);
 }
 
 /* ---- what nginx calls in place of the upstream's selection */
@@ -178,8 +207,10 @@ static ngx_int_t get_peer(ngx_peer_connection_t *peer, void *data)
 static void free_peer(ngx_peer_connection_t *peer, void *data, ngx_uint_t state)
 {
   struct passage *passage = data;
-  if (passage->is_under_way)
+  if (passage->is_under_way) {
+    add_abandoned(passage, peer);
     tenants_end(&passage->tracker->tenants, &passage->try, outcome_of_try(passage, peer, state));
+  }
   passage->is_under_way = false;
   passage->free(peer, passage->data, state);
 }
@@ -247,6 +278,7 @@ static ngx_int_t init_peer(ngx_http_request_t *r, ngx_http_upstream_srv_conf_t *
     return NGX_ERROR;
   passage->tracker = front->tracker;
   passage->upstream = r->upstream;
+  passage->cost = request_cost(r);
   ngx_http_set_ctx(r, passage, ngx_http_dmclock_track_module);
   bool is_known = is_http(r->upstream);
   if (!is_known || !find_name(r, passage)) {
@@ -262,26 +294,26 @@ static ngx_int_t init_peer(ngx_http_request_t *r, ngx_http_upstream_srv_conf_t *
   return NGX_OK;
 }
 
-static void drop_phase(const ngx_list_part_t *part)
+static void drop_of_part(const ngx_list_part_t *part)
 {
   ngx_table_elt_t *headers = part->elts;
   for (ngx_uint_t i = 0; i < part->nelts; i++)
-    if (headers[i].key.len == sizeof PHASE_HEADER - 1 &&
-        ngx_strncasecmp(headers[i].key.data, (u_char *)PHASE_HEADER, sizeof PHASE_HEADER - 1) == 0)
+    if (headers[i].key.len >= sizeof STAMP_HEADERS - 1 &&
+        ngx_strncasecmp(headers[i].key.data, (u_char *)STAMP_HEADERS, sizeof STAMP_HEADERS - 1) == 0)
       headers[i].hash = 0;
 }
 
-void drop_phases(ngx_http_request_t *r)
+void drop_reports(ngx_http_request_t *r)
 {
   for (const ngx_list_part_t *part = &r->headers_out.headers.part; part; part = part->next)
-    drop_phase(part);
+    drop_of_part(part);
 }
 
 /* What a server said of a stamp is for this front alone. */
 static ngx_int_t filter_header(ngx_http_request_t *r)
 {
   if (ngx_http_get_module_ctx(r, ngx_http_dmclock_track_module))
-    drop_phases(r);
+    drop_reports(r);
   return next_header_filter(r);
 }
 

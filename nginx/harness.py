@@ -16,7 +16,7 @@ import time
 HERE = os.path.dirname(os.path.realpath(__file__))
 MODULE = f"{HERE}/out/ngx_http_dmclock_module.so"
 DEVICE = f"{HERE}/out/device"
-LIMIT = 60  # seconds of a test
+LIMIT = 240  # seconds of a test
 PATIENCE = 15  # and of a wait for something that is to happen
 
 
@@ -173,6 +173,10 @@ class Server:
         return [tuple(int(value) for name in ("dmclock-delta", "dmclock-rho") for key, value in request.headers if key == name)
                 for request in self.requests]
 
+    def costs(self):
+        """The cost that each request carried; None if it carried none."""
+        return [next((int(value) for key, value in request.headers if key == "dmclock-cost"), None) for request in self.requests]
+
     def hold(self):
         self.is_open = False
 
@@ -210,7 +214,7 @@ class Nginx:
         self.config = f"{self.folder}/nginx.conf"
         with open(self.config, "w", encoding="utf-8") as file:
             file.write(f"load_module {MODULE};\ndaemon off; {user} {main}\nerror_log {self.folder}/error.log info;\n"
-                       f"pid {self.folder}/pid;\nevents {{ worker_connections 2048; }}\n"
+                       f"pid {self.folder}/pid;\nevents {{ worker_connections 8192; }}\n"
                        f"http {{ access_log off; {temporary}\n{http.replace('PORT', str(self.port)).replace('FOLDER', self.folder)}\n}}\n")
 
     def command(self, *words):

@@ -83,11 +83,14 @@ struct node_main {
 
 enum status_format { STATUS_NONE, STATUS_PROMETHEUS, STATUS_JSON };
 
+struct cost_setting;
+
 struct node_location {
   struct node_zone *zone;     /* NULL if there is none */
   ngx_flag_t read_body;
   ngx_uint_t reject;          /* the status of a request that is refused */
   ngx_array_t *trust;         /* ngx_cidr_t: whose stamps count */
+  struct cost_setting *cost;  /* of requests; NULL if each costs 1 */
   enum status_format status;  /* of its page, if it is one */
 };
 
@@ -99,6 +102,10 @@ char *default_directive(ngx_conf_t *, ngx_command_t *, void *);
 char *use_directive(ngx_conf_t *, ngx_command_t *, void *);
 char *reject_directive(ngx_conf_t *, ngx_command_t *, void *);
 char *trust_directive(ngx_conf_t *, ngx_command_t *, void *);
+char *cost_directive(ngx_conf_t *, ngx_command_t *, void *);
+
+/* What a request costs by the settings of its location: 1 if they say nothing, or if the text is no number. */
+uint32_t request_cost(ngx_http_request_t *);
 
 /* Whether the zones agree with each other and with what is set elsewhere, after an error that says which does not. */
 bool zones_agree(ngx_conf_t *, const struct node_main *);
@@ -118,8 +125,8 @@ struct front_main {
   ngx_array_t upstreams;      /* ngx_http_upstream_srv_conf_t *, those with a tracker */
 };
 
-/* Takes the phase from a response's headers. */
-void drop_phases(ngx_http_request_t *);
+/* Takes what is said of stamps from a response's headers. */
+void drop_reports(ngx_http_request_t *);
 
 /* ---- the status */
 

@@ -20,6 +20,7 @@ struct visit {
   bool is_suspended;
   bool is_refused;
   bool is_written;            /* the last part of the response was passed on */
+  bool is_reported;           /* the response says its phase */
 };
 
 static ngx_http_output_header_filter_pt next_header_filter;
@@ -90,13 +91,16 @@ static struct visit *visit_of(ngx_http_request_t *r)
   return cleanup ? cleanup->data : visit;
 }
 
-/* The request leaves the zone: it is served, or its client no longer waits. */
+/* The request leaves the zone: it is served, or its client no longer waits. If it was granted, and its response does not say so, that of
+   another request of the client has to. */
 static void leave(struct visit *visit)
 {
   struct node_zone *zone = visit->zone;
   enum request_state state = visit->request.state;
   if (state != REQUEST_WAITS && state != REQUEST_GRANTED)
     return;
+  if (state == REQUEST_GRANTED && visit->is_stamped && !visit->is_reported)
+    visit->request.client->abandoned[visit->request.phase] += visit->stamp.cost;
   uint64_t now = now_of(zone);
   wake(zone_leave(&zone->zone, &visit->request, now));
   set_timer(zone, now);
@@ -150,7 +154,7 @@ static struct visit *new_visit(ngx_http_request_t *r, struct node_zone *zone)
 
 /* What the headers of a request have of a stamp. One that comes twice is malformed, since others may read it otherwise. */
 struct stamp_headers {
-  const ngx_str_t *delta, *rho;
+  const ngx_str_t *delta, *rho, *cost, *counting;
   bool is_double;
 };
 
@@ -172,36 +176,62 @@ static void find_stamp(ngx_list_part_t *part, struct stamp_headers *found)
       take_header(found, &found->delta, &headers[i]);
     else if (is_word(&name, RHO_HEADER))
       take_header(found, &found->rho, &headers[i]);
+    else if (is_word(&name, COST_HEADER))
+      take_header(found, &found->cost, &headers[i]);
+    else if (is_word(&name, COUNTING_HEADER))
+      take_header(found, &found->counting, &headers[i]);
   }
 }
 
-static bool read_stamp(const struct stamp_headers *found, struct dmc_stamp *stamp)
+static bool read_count(const ngx_str_t *text, uint32_t *count)
 {
-  return found->delta && found->rho && !found->is_double &&
-         stamp_read_count((const char *)found->delta->data, found->delta->len, &stamp->delta) &&
-         stamp_read_count((const char *)found->rho->data, found->rho->len, &stamp->rho) && stamp->rho <= stamp->delta;
+  return text && stamp_read_count((const char *)text->data, text->len, count);
 }
 
-/* Takes the request's stamp, if it counts. Else the request counts for one, as at a server that is its clients' only one. */
+/* A stamp that does not say the cost is of a request that costs 1. */
+static bool read_stamp(const struct stamp_headers *found, struct dmc_stamp *stamp)
+{
+  stamp->cost = 1;
+  return !found->is_double && read_count(found->delta, &stamp->delta) && read_count(found->rho, &stamp->rho) &&
+         stamp->rho <= stamp->delta && (!found->cost || read_count(found->cost, &stamp->cost)) && stamp->cost > 0 &&
+         (!found->counting || is_word(found->counting, COUNTING_ALL));
+}
+
+/* In which form a stamp counts. In the form DMC_OTHERS it counts its own cost, and so is not below that. */
+static enum dmc_counting counting_of(const struct stamp_headers *found, const struct dmc_stamp *stamp)
+{
+  return found->counting || stamp->rho < stamp->cost ? DMC_ALL : DMC_OTHERS;
+}
+
+/* Takes the request's stamp, if it counts. */
 static void take_stamp(struct visit *visit, ngx_array_t *trust)
 {
   ngx_http_request_t *r = visit->r;
-  struct stamp_headers found = {NULL, NULL, false};
+  struct stamp_headers found = {NULL, NULL, NULL, NULL, false};
   for (ngx_list_part_t *part = &r->headers_in.headers.part; part; part = part->next)
     find_stamp(part, &found);
-  visit->stamp = (struct dmc_stamp){1, 1};
   if (!found.delta && !found.rho)
     return;
   bool is_trusted = trust && ngx_cidr_match(r->connection->sockaddr, trust) == NGX_OK;
-  struct dmc_stamp stamp;
+  struct dmc_stamp stamp = {0, 0, 0};
   visit->is_stamped = is_trusted && read_stamp(&found, &stamp);
-  if (visit->is_stamped)
+  if (visit->is_stamped) {
     visit->stamp = stamp;
-  else
+    visit->request.counting = counting_of(&found, &stamp);
+  } else
     ngx_log_error(NGX_LOG_INFO, r->connection->log, 0, "dmclock: the request's stamp is %s, and does not count",
                   is_trusted ? "malformed" : "of an address that dmclock_trust does not have");
   struct zone *zone = &visit->zone->zone;
   *(!is_trusted ? &zone->untrusted : visit->is_stamped ? &zone->stamped : &zone->malformed) += 1;
+}
+
+/* The stamp of a request without one that counts: its own cost, as at a server that is its clients' only one. If the body was read before,
+   its length is known. */
+static void make_stamp(struct visit *visit)
+{
+  uint32_t cost = request_cost(visit->r);
+  visit->stamp = (struct dmc_stamp){cost, cost, cost};
+  visit->request.counting = DMC_OTHERS;
 }
 
 /* ---- clients */
@@ -282,6 +312,8 @@ static ngx_int_t enter(struct visit *visit)
   struct client *client = find_client(visit, now, &status);
   if (!client)
     return status;
+  if (!visit->is_stamped)
+    make_stamp(visit);
   struct request *woken;
   enum refusal refusal = zone_enter(&zone->zone, &visit->request, client, visit->stamp, now, &woken);
   if (refusal)
@@ -377,6 +409,35 @@ static ngx_int_t put_retry_after(ngx_http_request_t *r, uint64_t seconds)
   return put_header(r, "Retry-After", value);
 }
 
+/* Takes as much as a header says from what a client's abandoned requests cost. */
+static uint32_t take_abandoned(uint64_t *cost)
+{
+  uint32_t taken = *cost < UINT32_MAX ? (uint32_t)*cost : UINT32_MAX;
+  *cost -= taken;
+  return taken;
+}
+
+static ngx_int_t put_abandoned(ngx_http_request_t *r, struct client *client)
+{
+  uint32_t costs[2] = {take_abandoned(&client->abandoned[0]), take_abandoned(&client->abandoned[1])};
+  char *value = costs[0] || costs[1] ? ngx_pnalloc(r->pool, ABANDONED_SIZE) : NULL;
+  if (!value)
+    return costs[0] || costs[1] ? NGX_ERROR : NGX_OK;
+  stamp_write_abandoned(value, costs);
+  return put_header(r, ABANDONED_HEADER, value);
+}
+
+/* Says what became of the request's stamp, if it has one that counts, and of the stamps of abandoned requests. */
+static ngx_int_t put_report(ngx_http_request_t *r, struct visit *visit)
+{
+  if (!visit->is_stamped)
+    return NGX_OK;
+  if (put_header(r, PHASE_HEADER, outcome_word(outcome_of_visit(visit))) != NGX_OK)
+    return NGX_ERROR;
+  visit->is_reported = true;
+  return visit->request.state == REQUEST_GRANTED ? put_abandoned(r, visit->request.client) : NGX_OK;
+}
+
 /* The phase is the queue's, whatever the content says: with the word "none" of a tenant's own its requests would not count. A response
    without a body has its request leave here. */
 static ngx_int_t filter_header(ngx_http_request_t *r)
@@ -384,8 +445,8 @@ static ngx_int_t filter_header(ngx_http_request_t *r)
   struct visit *visit = r == r->main ? visit_of(r) : NULL;
   if (!visit)
     return next_header_filter(r);
-  drop_phases(r);
-  if (visit->is_stamped && put_header(r, PHASE_HEADER, outcome_word(outcome_of_visit(visit))) != NGX_OK)
+  drop_reports(r);
+  if (put_report(r, visit) != NGX_OK)
     return NGX_ERROR;
   if (visit->retry_after && put_retry_after(r, visit->retry_after) != NGX_OK)
     return NGX_ERROR;
@@ -497,6 +558,7 @@ static void *create_location(ngx_conf_t *cf)
   location->read_body = NGX_CONF_UNSET;
   location->reject = NGX_CONF_UNSET_UINT;
   location->trust = NGX_CONF_UNSET_PTR;
+  location->cost = NGX_CONF_UNSET_PTR;
   return location;
 }
 
@@ -507,6 +569,7 @@ static char *merge_location(ngx_conf_t *cf, void *parent, void *child)
   ngx_conf_merge_value(location->read_body, before->read_body, 0);
   ngx_conf_merge_uint_value(location->reject, before->reject, NGX_HTTP_SERVICE_UNAVAILABLE);
   ngx_conf_merge_ptr_value(location->trust, before->trust, NULL);
+  ngx_conf_merge_ptr_value(location->cost, before->cost, NULL);
   return NGX_CONF_OK;
 }
 
@@ -536,6 +599,7 @@ static ngx_command_t commands[] = {
    offsetof(struct node_location, read_body), NULL},
   {ngx_string("dmclock_reject"), EVERYWHERE | NGX_CONF_TAKE1, reject_directive, NGX_HTTP_LOC_CONF_OFFSET, 0, NULL},
   {ngx_string("dmclock_trust"), EVERYWHERE | NGX_CONF_1MORE, trust_directive, NGX_HTTP_LOC_CONF_OFFSET, 0, NULL},
+  {ngx_string("dmclock_cost"), EVERYWHERE | NGX_CONF_1MORE, cost_directive, NGX_HTTP_LOC_CONF_OFFSET, 0, NULL},
   {ngx_string("dmclock_status"), NGX_HTTP_LOC_CONF | NGX_CONF_NOARGS | NGX_CONF_TAKE1, status_directive, NGX_HTTP_LOC_CONF_OFFSET, 0, NULL},
   ngx_null_command
 };

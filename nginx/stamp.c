@@ -1,5 +1,7 @@
 #include "stamp.h"
 
+#include <inttypes.h>
+#include <stdio.h>
 #include <string.h>
 
 #include "text.h"
@@ -34,12 +36,16 @@ bool stamp_read_count(const char *text, size_t length, uint32_t *count)
   return true;
 }
 
-bool stamp_with_returned(struct dmc_stamp stamp, struct dmc_stamp returned, enum dmc_counting counting, struct dmc_stamp *sum)
+void stamp_write_abandoned(char text[ABANDONED_SIZE], const uint32_t costs[2])
 {
-  uint32_t own = counting == DMC_OTHERS ? 1 : 0;
-  uint32_t delta = returned.delta - own, rho = returned.rho - own;
-  if (UINT32_MAX - stamp.delta < delta || UINT32_MAX - stamp.rho < rho)
+  snprintf(text, ABANDONED_SIZE, "%" PRIu32 " %" PRIu32, costs[0], costs[1]);
+}
+
+bool stamp_read_abandoned(const char *text, size_t length, uint32_t costs[2])
+{
+  const char *blank = memchr(text, ' ', length);
+  if (!blank)
     return false;
-  *sum = (struct dmc_stamp){stamp.delta + delta, stamp.rho + rho};
-  return true;
+  size_t first = (size_t)(blank - text);
+  return stamp_read_count(text, first, &costs[0]) && stamp_read_count(blank + 1, length - first - 1, &costs[1]);
 }

@@ -1,4 +1,6 @@
-/* Stamps as HTTP carries them: the counts of a request in two of its headers, and what became of it in one of the response. */
+/* Stamps as HTTP carries them: the counts of a request and its cost in three of its headers, the form of counting in a fourth if it is
+   not the usual one, and what became of the request in one of the response. A second one has what other requests cost that were granted
+   and have no response. */
 #ifndef DMCLOCK_STAMP_H
 #define DMCLOCK_STAMP_H
 
@@ -10,7 +12,11 @@
 #define STAMP_HEADERS "dmclock-" /* how each of them begins, in lower case */
 #define DELTA_HEADER "dmclock-delta"
 #define RHO_HEADER "dmclock-rho"
+#define COST_HEADER "dmclock-cost"
+#define COUNTING_HEADER "dmclock-counting" /* of a tracker that counts in the form DMC_ALL */
+#define COUNTING_ALL "all"
 #define PHASE_HEADER "dmclock-phase"
+#define ABANDONED_HEADER "dmclock-abandoned"
 
 /* What a server's response says of the request. */
 enum outcome {
@@ -28,8 +34,9 @@ enum outcome outcome_of(const char *word, size_t length);
 /* Reads a count of a stamp: 1 to 10 decimal digits, at most 2^32-1. */
 bool stamp_read_count(const char *text, size_t length, uint32_t *count);
 
-/* A stamp with the counts of another one that was returned: that one's own share of 1, which DMC_OTHERS has in it, is not among
-   them, since its request is not served. False if a count would pass 2^32-1. */
-bool stamp_with_returned(struct dmc_stamp stamp, struct dmc_stamp returned, enum dmc_counting counting, struct dmc_stamp *sum);
+/* What abandoned requests cost, by dmc_phase: two counts with a blank between them. */
+#define ABANDONED_SIZE sizeof "4294967295 4294967295"
+void stamp_write_abandoned(char text[ABANDONED_SIZE], const uint32_t costs[2]);
+bool stamp_read_abandoned(const char *text, size_t length, uint32_t costs[2]);
 
 #endif

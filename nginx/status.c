@@ -27,6 +27,7 @@ static void put_json_client(FILE *text, const struct zone *zone, const struct cl
           client->rates.weight, client->rates.limit);
   fprintf(text, ", \"requests\": %" PRIu64 ", \"reservation\": %" PRIu64 ", \"priority\": %" PRIu64 ", \"beyond\": %" PRIu64,
           client->requests, client->grants[DMC_RESERVATION], client->grants[DMC_PRIORITY], client->beyond);
+  fprintf(text, ", \"cost\": %" PRIu64, client->costs[DMC_RESERVATION] + client->costs[DMC_PRIORITY]);
   fprintf(text, ", \"refused\": %" PRIu64 ", \"left\": %" PRIu64 ", \"expired\": %" PRIu64, client->refused, client->left, client->expired);
   fprintf(text, ", \"queued\": %" PRIu32 ", \"under_way\": %" PRIu32 ", \"waited_us\": %" PRIu64 "}\n", client->queued, client->under_way,
           (waited[DMC_RESERVATION].sum + waited[DMC_PRIORITY].sum) / 1000);
@@ -52,8 +53,8 @@ static void put_json_server(FILE *text, const struct tenants *tracker, uint32_t 
   fputs(", \"server\": ", text);
   text_put_json(text, tracker->server_names[server]);
   fprintf(text, ", \"stamps\": %" PRIu64 ", \"reservation\": %" PRIu64 ", \"priority\": %" PRIu64 ", \"returned\": %" PRIu64
-          ", \"expired\": %" PRIu64 "}\n", counts->stamps, counts->completions[DMC_RESERVATION], counts->completions[DMC_PRIORITY],
-          counts->returned, counts->expired);
+          ", \"expired\": %" PRIu64 ", \"abandoned\": %" PRIu64 "}\n", counts->stamps, counts->completions[DMC_RESERVATION],
+          counts->completions[DMC_PRIORITY], counts->returned, counts->expired, counts->abandoned);
 }
 
 static void put_json_tenants(FILE *text, const struct tenants *tracker, struct tenant *first)
@@ -141,6 +142,7 @@ static uint64_t waiting_of(const struct zone *zone) { return zone->waiting; }
 static uint64_t zone_queued_of(const struct zone *zone) { return zone->queued; }
 static uint64_t unknown_of(const struct zone *zone) { return zone->unknown; }
 static uint64_t stamps_of(const struct server_counts *counts) { return counts->stamps; }
+static uint64_t abandoned_of(const struct server_counts *counts) { return counts->abandoned; }
 static uint64_t returned_of(const struct server_counts *counts) { return counts->returned; }
 static uint64_t server_expired_of(const struct server_counts *counts) { return counts->expired; }
 static uint64_t tenants_of(const struct tenants *tracker) { return tracker->count; }
@@ -195,13 +197,24 @@ static void put_stamps(const struct metric *metric, const struct zone *zone)
   }
 }
 
+static void put_phases(const struct metric *metric, const struct zone *zone, const struct client *client, const uint64_t numbers[2])
+{
+  for (int phase = 0; phase < 2; phase++) {
+    put_client(metric, "", zone, client);
+    fprintf(metric->text, ",phase=\"%s\"} %" PRIu64 "\n", phases[phase], numbers[phase]);
+  }
+}
+
 static void put_granted(const struct metric *metric, const struct zone *zone)
 {
   for (const struct client *client = zone->first; client; client = client->next)
-    for (int phase = 0; phase < 2; phase++) {
-      put_client(metric, "", zone, client);
-      fprintf(metric->text, ",phase=\"%s\"} %" PRIu64 "\n", phases[phase], client->grants[phase]);
-    }
+    put_phases(metric, zone, client, client->grants);
+}
+
+static void put_costs(const struct metric *metric, const struct zone *zone)
+{
+  for (const struct client *client = zone->first; client; client = client->next)
+    put_phases(metric, zone, client, client->costs);
 }
 
 static void put_histogram(const struct metric *metric, const struct zone *zone, const struct client *client, int phase)
@@ -265,30 +278,32 @@ static void put_tenant_completions(const struct metric *metric, const struct ten
 static const struct row rows[] = {
   {"dmclock_requests_total", "counter", "Requests that were queued.", .of_client = requests_of},
   {"dmclock_granted_total", "counter", "Requests that were granted, by the phase of the grant.", .put_zone = put_granted},
+  {"dmclock_granted_cost_total", "counter", "What these requests cost.", .put_zone = put_costs},
   {"dmclock_beyond_total", "counter", "Grants beyond the client's limit (at_limit=allow).", .of_client = beyond_of},
   {"dmclock_refused_total", "counter", "Requests that were not queued.", .of_client = refused_of},
   {"dmclock_left_total", "counter", "Requests that left while they waited.", .of_client = left_of},
   {"dmclock_expired_total", "counter", "Requests that waited for longer than the timeout.", .of_client = expired_of},
   {"dmclock_wait_seconds", "histogram", "How long requests waited for their grant, by its phase.", .put_zone = put_waits},
-  {"dmclock_queued", "gauge", "Requests in the queue, those that have left or expired among them.", .of_client = queued_of},
-  {"dmclock_reservation", "gauge", "The client's reservation, in requests a second.", .of_rate = reservation_of},
+  {"dmclock_queued", "gauge", "Requests in the queue, those that are to be cancelled among them.", .of_client = queued_of},
+  {"dmclock_reservation", "gauge", "The client's reservation, in units of cost a second.", .of_rate = reservation_of},
   {"dmclock_weight", "gauge", "The client's weight.", .of_rate = weight_of},
-  {"dmclock_limit", "gauge", "The client's limit, in requests a second.", .of_rate = limit_of},
+  {"dmclock_limit", "gauge", "The client's limit, in units of cost a second.", .of_rate = limit_of},
   {"dmclock_depth", "gauge", "How many requests the device may have at once.", .of_zone = depth_of},
   {"dmclock_under_way", "gauge", "How many requests the device has.", .of_zone = under_way_of},
   {"dmclock_waiting", "gauge", "How many requests wait.", .of_zone = waiting_of},
-  {"dmclock_zone_queued", "gauge", "Requests in the queue, those that have left or expired among them.", .of_zone = zone_queued_of},
+  {"dmclock_zone_queued", "gauge", "Requests in the queue, those that are to be cancelled among them.", .of_zone = zone_queued_of},
   {"dmclock_stamps_total", "counter", "Requests with a stamp, by whether it counted.", .put_zone = put_stamps},
   {"dmclock_unknown_total", "counter", "Requests of names that are no client.", .of_zone = unknown_of},
   {"dmclock_tracker_stamps_total", "counter", "Requests that were stamped.", .of_server = stamps_of},
   {"dmclock_tracker_completions_total", "counter", "Responses that were counted, by phase.", .put_tracker = put_completions},
+  {"dmclock_tracker_abandoned_total", "counter", "What granted requests cost that have no response.", .of_server = abandoned_of},
   {"dmclock_tracker_returned_total", "counter", "Stamps that did not reach a queue, and go out again.", .of_server = returned_of},
-  {"dmclock_tracker_expired_total", "counter", "Requests that expired at the server.", .of_server = server_expired_of},
+  {"dmclock_tracker_expired_total", "counter", "Requests that expired at the server, or have no response.", .of_server = server_expired_of},
   {"dmclock_tracker_tenants", "gauge", "How many tenants have a tracker.", .of_tracker = tenants_of},
   {"dmclock_tracker_forgotten_total", "counter", "Tenants whose place another took.", .of_tracker = forgotten_of},
   {"dmclock_tracker_lost_total", "counter", "Stamps with counts that are more than a stamp can say.", .of_tracker = lost_of},
   {"dmclock_tracker_unstamped_total", "counter", "Requests that were sent without a stamp.", .of_tracker = unstamped_of},
-  {"dmclock_tenant_completions_total", "counter", "Responses that were counted, by phase.", .put_tracker = put_tenant_completions},
+  {"dmclock_tenant_completions_total", "counter", "What the responses that were counted cost, by phase.", .put_tracker = put_tenant_completions},
 };
 
 static void put_zone_row(const struct metric *metric, const struct row *row, const struct zone *zone)

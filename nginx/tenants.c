@@ -92,14 +92,14 @@ static struct tenant *find(struct tenants *tenants, const char *name)
 /* ---- stamps */
 
 /* Stamps a request. If the tracker's counts are more than a stamp can say, they are skipped, as the tracker wants it. */
-static bool take_stamp(struct tenants *tenants, struct tenant *tenant, uint32_t server, struct dmc_stamp *stamp)
+static bool take_stamp(struct tenants *tenants, struct tenant *tenant, uint32_t server, uint32_t cost, struct dmc_stamp *stamp)
 {
-  uint32_t code = dmc_tracker_stamp(&tenant->tracker, server, stamp);
+  uint32_t code = dmc_tracker_stamp(&tenant->tracker, server, cost, stamp);
   if (code != DMC_TRACK_FULL)
     return code == DMC_OK;
   tenants->lost++;
   dmc_tracker_skip(&tenant->tracker, server);
-  return dmc_tracker_stamp(&tenant->tracker, server, stamp) == DMC_OK;
+  return dmc_tracker_stamp(&tenant->tracker, server, cost, stamp) == DMC_OK;
 }
 
 /* Adds what was returned of earlier requests to a stamp. What does not fit is lost. */
@@ -109,7 +109,7 @@ static void add_returned(struct tenants *tenants, struct tenant *tenant, uint32_
   if (!(tenant->has_returned & bit))
     return;
   tenant->has_returned &= ~bit;
-  if (!stamp_with_returned(*stamp, tenant->returned[server], tenants->counting, stamp))
+  if (dmc_stamp_with_returned(stamp, &tenant->returned[server], tenants->counting) != DMC_OK)
     tenants->lost++;
 }
 
@@ -129,10 +129,10 @@ void tenants_close(struct tenants *tenants)
     forget(tenants, &tenants->quiet, tenants->quiet.first);
 }
 
-bool tenants_begin(struct tenants *tenants, const char *name, uint32_t server, struct try *try)
+bool tenants_begin(struct tenants *tenants, const char *name, uint32_t server, uint32_t cost, struct try *try)
 {
   struct tenant *tenant = find(tenants, name);
-  if (!tenant || !take_stamp(tenants, tenant, server, &try->stamp))
+  if (!tenant || !take_stamp(tenants, tenant, server, cost, &try->stamp))
     return false;
   add_returned(tenants, tenant, server, &try->stamp);
   if (tenant->under_way++ == 0) {
@@ -143,6 +143,14 @@ bool tenants_begin(struct tenants *tenants, const char *name, uint32_t server, s
   try->tenant = tenant;
   try->server = server;
   return true;
+}
+
+void tenants_add(struct tenants *tenants, const struct try *try, const uint32_t costs[2])
+{
+  for (int phase = 0; phase < 2; phase++)
+    if (costs[phase])
+      dmc_tracker_respond(&try->tenant->tracker, try->server, (uint32_t)phase, costs[phase]);
+  tenants->counts[try->server].abandoned += (uint64_t)costs[0] + costs[1];
 }
 
 void tenants_end(struct tenants *tenants, const struct try *try, enum outcome outcome)
@@ -156,7 +164,7 @@ void tenants_end(struct tenants *tenants, const struct try *try, enum outcome ou
     counts->expired++;
   } else {
     enum dmc_phase phase = outcome == OUTCOME_RESERVATION ? DMC_RESERVATION : DMC_PRIORITY;
-    dmc_tracker_respond(&tenant->tracker, try->server, phase);
+    dmc_tracker_respond(&tenant->tracker, try->server, phase, try->stamp.cost);
     counts->completions[phase]++;
   }
   if (--tenant->under_way == 0) {

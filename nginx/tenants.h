@@ -16,7 +16,8 @@
 /* What became of the requests to one server, of all tenants. */
 struct server_counts {
   uint64_t stamps, completions[2]; /* by dmc_phase */
-  uint64_t returned, expired; /* the others: their stamps are for the next request; or the queue has them */
+  uint64_t abandoned;         /* what requests cost that the server granted, and that have no response */
+  uint64_t returned, expired; /* the others: their stamps are for the next request; or the queue has them, and no response says more */
 };
 
 /* A tenant, from its first request on. */
@@ -59,10 +60,13 @@ struct try {
 /* Frees all. No request is under way. */
 void tenants_close(struct tenants *);
 
-/* Stamps a request of the tenant of this name to a server, with what was returned of earlier ones. A tenant more takes the place of the
+/* Stamps a request of a cost, of the tenant of this name, to a server, with what was returned of earlier ones. A tenant more takes the place of the
    one that was quiet for the longest. False if there are the most tenants, each with a request under way, or memory is short. After
    true, and only then, `tenants_end` must follow. */
-bool tenants_begin(struct tenants *, const char *name, uint32_t server, struct try *);
+bool tenants_begin(struct tenants *, const char *name, uint32_t server, uint32_t cost, struct try *);
+
+/* The server says what it granted to requests of the tenant that have no response: what they cost, by dmc_phase. */
+void tenants_add(struct tenants *, const struct try *, const uint32_t costs[2]);
 
 /* The request has an outcome. */
 void tenants_end(struct tenants *, const struct try *, enum outcome);

@@ -77,14 +77,15 @@ static void counts(void)
   CHECK(is_malformed("4294967296") && is_malformed("99999999999999999999") && is_malformed("00000000012") && is_malformed("1,1"));
 }
 
-static void returned(void)
+static void written_costs(void)
 {
-  struct dmc_stamp sum;
-  CHECK(stamp_with_returned((struct dmc_stamp){3, 1}, (struct dmc_stamp){5, 2}, DMC_ALL, &sum) && sum.delta == 8 && sum.rho == 3);
-  CHECK(stamp_with_returned((struct dmc_stamp){3, 1}, (struct dmc_stamp){5, 2}, DMC_OTHERS, &sum) && sum.delta == 7 && sum.rho == 2);
-  CHECK(stamp_with_returned((struct dmc_stamp){1, 1}, (struct dmc_stamp){UINT32_MAX, 1}, DMC_OTHERS, &sum) && sum.delta == UINT32_MAX);
-  CHECK(!stamp_with_returned((struct dmc_stamp){1, 0}, (struct dmc_stamp){UINT32_MAX, 0}, DMC_ALL, &sum));
-  CHECK(!stamp_with_returned((struct dmc_stamp){2, 2}, (struct dmc_stamp){UINT32_MAX, UINT32_MAX}, DMC_OTHERS, &sum));
+  char text[ABANDONED_SIZE];
+  uint32_t costs[2] = {7, UINT32_MAX}, read[2] = {1, 1};
+  stamp_write_abandoned(text, costs);
+  CHECK(strcmp(text, "7 4294967295") == 0 && stamp_read_abandoned(text, strlen(text), read) && read[0] == 7 && read[1] == UINT32_MAX);
+  static const char *const malformed[] = {"", "7", "7 ", " 7", "7 8 9", "7,8", "-7 8", "4294967296 1"};
+  for (size_t i = 0; i < sizeof malformed / sizeof *malformed; i++)
+    CHECK(!stamp_read_abandoned(malformed[i], strlen(malformed[i]), read));
 }
 
 static bool is_outcome(const char *word, enum outcome outcome)
@@ -106,7 +107,7 @@ static const struct zone_config one_at_once = {
   .name = "z", .depth = 1, .most_queued = 100000, .most_of_client = 100000, .most_others = 10, .at_limit = DMC_WAIT, .shares = DMC_VIRTUAL,
   .timeout = NEVER, .idle = 60 * (uint64_t)SECOND, .erase = 60 * (uint64_t)SECOND};
 
-static const struct dmc_stamp one = {1, 1};
+static const struct dmc_stamp one = {1, 1, 1};
 
 static struct zone *opened(const struct zone_config *config)
 {
@@ -125,14 +126,23 @@ static struct client *client(struct zone *zone, const char *name, uint32_t reser
   return made;
 }
 
-/* Enters a request, and says whether it is granted at once. */
+/* Enters a request that counts its own cost, and says whether it is granted at once. */
 static bool is_granted(struct zone *zone, struct request *request, struct client *client, uint64_t now)
 {
   struct request *woken;
-  memset(request, 0, sizeof *request);
+  *request = (struct request){.counting = DMC_OTHERS};
   CHECK(zone_enter(zone, request, client, one, now, &woken) == REFUSED_NOT);
   CHECK((woken == request) == (request->state == REQUEST_GRANTED));
   return woken == request;
+}
+
+/* Why a request is refused. */
+static enum refusal refusal(struct zone *zone, struct client *client, uint64_t now)
+{
+  struct request request = {0}, *woken;
+  enum refusal refusal = zone_enter(zone, &request, client, one, now, &woken);
+  CHECK(woken == NULL && request.state == REQUEST_NEW);
+  return refusal;
 }
 
 /* Each request leaves the device for the next, in the order in which they came. */
@@ -152,39 +162,251 @@ static void in_turn(void)
   zone_close(zone);
 }
 
-/* A request that has left keeps its place in the queue, and its grant passes to the next. */
-static void passed_on(void)
+/* A request that has left is cancelled before the next one is granted. */
+static void cancelled(void)
 {
   struct zone *zone = opened(&one_at_once);
   struct client *gold = client(zone, "gold", 0, 1, 0);
-  struct request requests[4];
-  is_granted(zone, &requests[0], gold, 1);
-  for (int i = 1; i < 4; i++)
+  struct request requests[5];
+  for (int i = 0; i < 5; i++)
     is_granted(zone, &requests[i], gold, 1);
-  CHECK(zone_leave(zone, &requests[1], 2) == NULL && zone_leave(zone, &requests[2], 2) == NULL);
-  CHECK(gold->left == 2 && zone->waiting == 1 && zone->queued == 3 && gold->queued == 3);
-  CHECK(zone_leave(zone, &requests[0], 3) == &requests[3] && requests[3].state == REQUEST_GRANTED);
-  CHECK(zone->queued == 0 && gold->queued == 0 && zone->under_way == 1 && gold->grants[DMC_PRIORITY] == 2);
+  CHECK(zone_leave(zone, &requests[1], 2) == NULL && zone_leave(zone, &requests[4], 2) == NULL && zone_leave(zone, &requests[2], 2) == NULL);
+  CHECK(gold->left == 3 && zone->waiting == 1 && zone->queued == 4 && gold->queued == 4 && gold->given_up == 3);
+  CHECK(zone_leave(zone, &requests[0], 3) == &requests[3] && requests[3].state == REQUEST_GRANTED && gold->grants[DMC_PRIORITY] == 2);
+  CHECK(zone->queued == 0 && gold->queued == 0 && gold->given_up == 0 && !zone->giving_up && zone->under_way == 1);
   zone_leave(zone, &requests[3], 4);
   zone_close(zone);
 }
 
-/* Many that have left are passed on over several turns. */
-static void many_passed_on(void)
+/* What is given up is not charged: at a limit of 10 a second the request behind 20 that leave at once is due as if it had come alone. If
+   their tracker does not count them in their stamps, they were not charged, and nothing is given back. */
+static void given_back(enum dmc_counting counting)
 {
-  enum { MANY = 2500 };
+  struct zone *zone = opened(&one_at_once);
+  struct client *batch = client(zone, "batch", 0, 1, 10);
+  struct request first, left[20], last, *woken;
+  uint64_t due = SECOND + SECOND / 10, late = SECOND + 21 * (SECOND / 10);
+  CHECK(is_granted(zone, &first, batch, SECOND) && zone_leave(zone, &first, SECOND) == NULL);
+  for (int i = 0; i < 20; i++) {
+    left[i] = (struct request){.counting = counting};
+    CHECK(zone_enter(zone, &left[i], batch, one, SECOND, &woken) == REFUSED_NOT && !woken);
+  }
+  is_granted(zone, &last, batch, SECOND);
+  for (int i = 0; i < 20; i++) /* the order in which they leave is not that in which they are cancelled */
+    zone_leave(zone, &left[i], SECOND + 1);
+  CHECK(zone->queued == 21 && zone_next_turn(zone) == due);
+  struct request *granted = zone_turn(zone, due);
+  CHECK(zone->queued == (granted ? 0 : 1) && (granted == &last) == (counting == DMC_OTHERS));
+  if (!granted)
+    CHECK(zone_next_turn(zone) == late && zone_turn(zone, late) == &last);
+  zone_leave(zone, &last, late);
+  zone_close(zone);
+}
+
+/* Enters a request of a cost, which is not granted at once. */
+static void waits(struct zone *zone, struct request *request, struct client *client, uint32_t cost, uint64_t now)
+{
+  struct request *woken;
+  *request = (struct request){.counting = DMC_OTHERS};
+  CHECK(zone_enter(zone, request, client, (struct dmc_stamp){cost, cost, cost}, now, &woken) == REFUSED_NOT && !woken);
+}
+
+/* At a limit of 10 a second a request of cost 100 is due after 10 seconds. Once it is given up, a cheaper one behind it is due as if that
+   one had not come: whether it came before that or after it, and also if another one was before both. */
+static void costly_given_up(void)
+{
+  struct zone *zone = opened(&one_at_once);
+  struct client *batch = client(zone, "batch", 0, 1, 10);
+  struct request first, before, costly, cheap;
+  uint64_t tenth = SECOND / 10, start = SECOND;
+  CHECK(is_granted(zone, &first, batch, start) && zone_leave(zone, &first, start) == NULL);
+  waits(zone, &costly, batch, 100, start);
+  waits(zone, &cheap, batch, 1, start);
+  CHECK(zone_next_turn(zone) == start + 100 * tenth && zone_leave(zone, &costly, start + 1) == NULL);
+  CHECK(zone_next_turn(zone) <= start + 1 && zone_turn(zone, start + 1) == NULL && zone_next_turn(zone) == start + tenth);
+  CHECK(zone_turn(zone, start + tenth) == &cheap && zone_leave(zone, &cheap, start + tenth) == NULL);
+
+  waits(zone, &costly, batch, 100, start + tenth);
+  CHECK(zone_leave(zone, &costly, start + tenth) == NULL);
+  waits(zone, &cheap, batch, 1, start + tenth);
+  CHECK(zone_next_turn(zone) == start + 2 * tenth && zone_turn(zone, start + 2 * tenth) == &cheap);
+  zone_leave(zone, &cheap, start + 2 * tenth);
+
+  waits(zone, &before, batch, 1, start + 2 * tenth);
+  waits(zone, &costly, batch, 100, start + 2 * tenth);
+  waits(zone, &cheap, batch, 1, start + 2 * tenth);
+  zone_leave(zone, &costly, start + 2 * tenth);
+  CHECK(zone->queued == 3 && zone_turn(zone, start + 3 * tenth) == &before && zone_leave(zone, &before, start + 3 * tenth) == NULL);
+  CHECK(zone->queued == 1 && zone_next_turn(zone) == start + 4 * tenth && zone_turn(zone, start + 4 * tenth) == &cheap);
+  zone_leave(zone, &cheap, start + 4 * tenth);
+  zone_close(zone);
+}
+
+/* So many that they are not cancelled at once. */
+enum { MANY = 2500 };
+
+/* Many that have left are cancelled over several turns, and are passed on if they are granted before. */
+static void many_given_up(void)
+{
   struct zone *zone = opened(&one_at_once);
   struct client *gold = client(zone, "gold", 0, 1, 0);
   static struct request first, left[MANY], last;
   is_granted(zone, &first, gold, 1);
-  for (int i = 0; i < MANY; i++) {
+  for (int i = 0; i < MANY; i++)
     is_granted(zone, &left[i], gold, 1);
-    zone_leave(zone, &left[i], 1);
-  }
-  CHECK(!is_granted(zone, &last, gold, 2) && zone->queued == MANY + 1 && zone->waiting == 1);
-  CHECK(zone_leave(zone, &first, 3) == NULL && zone->queued == MANY + 1 - 1000 && zone_next_turn(zone) == 3);
-  CHECK(zone_turn(zone, 4) == NULL && zone_turn(zone, 5) == &last && zone->queued == 0);
-  zone_leave(zone, &last, 6);
+  is_granted(zone, &last, gold, 1);
+  for (int i = 0; i < MANY; i++)
+    zone_leave(zone, &left[i], 2);
+  CHECK(zone_turn(zone, 2) == NULL && MANY / 2 < zone->queued && zone->queued < MANY + 1);
+  uint64_t next = zone_next_turn(zone);
+  uint32_t queued = zone->queued;
+  CHECK(2 < next && next <= 2 + SECOND / 100);
+  CHECK(zone_leave(zone, &first, 3) == NULL && zone->queued == queued - 1000 && zone_next_turn(zone) == 3);
+  struct request *granted = NULL;
+  for (uint64_t now = 4; now < 100 && !granted; now++)
+    granted = zone_turn(zone, now);
+  CHECK(granted == &last && zone->queued == 0 && gold->given_up == 0 && gold->left == MANY && gold->grants[DMC_PRIORITY] == 2);
+  zone_leave(zone, &last, 100);
+  zone_close(zone);
+}
+
+/* The same without room at the device: all are cancelled in the end. */
+static void many_cancelled(void)
+{
+  struct zone *zone = opened(&one_at_once);
+  struct client *gold = client(zone, "gold", 0, 1, 0);
+  static struct request first, left[MANY];
+  uint64_t now = 2;
+  is_granted(zone, &first, gold, 1);
+  for (int i = 0; i < MANY; i++)
+    is_granted(zone, &left[i], gold, 1);
+  for (int i = 0; i < MANY; i++)
+    zone_leave(zone, &left[i], now);
+  for (; zone->queued && now < 10 * (uint64_t)SECOND; now = zone_next_turn(zone))
+    zone_turn(zone, now);
+  CHECK(zone->queued == 0 && gold->queued == 0 && gold->given_up == 0 && !zone->giving_up);
+  zone_leave(zone, &first, now);
+  zone_close(zone);
+}
+
+/* Enters a request that its client gives up at once. Says why it is refused, if it is. */
+static enum refusal come_and_go(struct zone *zone, struct request *request, struct client *client, uint64_t now)
+{
+  struct request *woken;
+  *request = (struct request){.counting = DMC_OTHERS};
+  enum refusal refusal = zone_enter(zone, request, client, one, now, &woken);
+  CHECK(!woken && (refusal || zone_leave(zone, request, now) == NULL));
+  return refusal;
+}
+
+/* Takes turns until nothing is queued. Returns the time. */
+static uint64_t drain(struct zone *zone, uint64_t now)
+{
+  for (; zone->queued && now < 1000 * (uint64_t)SECOND; now = zone_next_turn(zone))
+    CHECK(zone_turn(zone, now) == NULL);
+  CHECK(zone->queued == 0 && zone->waiting == 0);
+  return now;
+}
+
+/* Who lets requests come and go faster than they are cancelled has no more of them in the queue than twice its part, and keeps nobody
+   else out. */
+static void come_and_gone(void)
+{
+  struct zone_config config = one_at_once;
+  config.most_of_client = MANY;
+  struct zone *zone = opened(&config);
+  struct client *gold = client(zone, "gold", 0, 1, 0), *silver = client(zone, "silver", 0, 1, 0);
+  static struct request first, request, left[MANY];
+  is_granted(zone, &first, gold, 1);
+  for (int i = 0; i < MANY; i++)
+    is_granted(zone, &left[i], gold, 1);
+  CHECK(refusal(zone, gold, 1) == REFUSED_CLIENT_FULL);
+  for (int i = 0; i < MANY; i++)
+    zone_leave(zone, &left[i], 2);
+  uint32_t came = 0;
+  while (came < 2 * MANY && come_and_go(zone, &request, gold, 2) == REFUSED_NOT)
+    came++;
+  CHECK(MANY <= came && came < MANY + MANY / 10 && gold->queued == 2 * MANY + 64 && gold->given_up == gold->queued && zone->waiting == 0);
+  CHECK(refusal(zone, gold, 2) == REFUSED_CLIENT_FULL && come_and_go(zone, &request, silver, 2) == REFUSED_NOT);
+  uint64_t end = drain(zone, 2);
+  CHECK(come_and_go(zone, &request, gold, end) == REFUSED_NOT && silver->refused == 0);
+  zone_leave(zone, &first, end);
+  drain(zone, end);
+  zone_close(zone);
+}
+
+/* The same of all clients together. */
+static void all_come_and_gone(void)
+{
+  struct zone_config config = one_at_once;
+  config.most_queued = MANY;
+  struct zone *zone = opened(&config);
+  struct client *gold = client(zone, "gold", 0, 1, 0), *silver = client(zone, "silver", 0, 1, 0);
+  static struct request first, request, left[MANY];
+  is_granted(zone, &first, gold, 1);
+  for (int i = 0; i < MANY; i++)
+    is_granted(zone, &left[i], gold, 1);
+  CHECK(refusal(zone, silver, 1) == REFUSED_FULL);
+  for (int i = 0; i < MANY; i++)
+    zone_leave(zone, &left[i], 2);
+  for (uint32_t came = 0; zone->queued < 2 * MANY + 64 && came < 2 * MANY; came++)
+    CHECK(come_and_go(zone, &request, silver, 2) == REFUSED_NOT);
+  CHECK(zone->queued == 2 * MANY + 64 && refusal(zone, silver, 2) == REFUSED_FULL && refusal(zone, gold, 2) == REFUSED_FULL);
+  zone_leave(zone, &first, drain(zone, 2));
+  zone_close(zone);
+}
+
+/* Clients whose requests are cancelled over several turns take turns themselves: who has many keeps no other one's in the queue. */
+static void cancelled_in_turn(void)
+{
+  struct zone *zone = opened(&one_at_once);
+  struct client *gold = client(zone, "gold", 0, 1, 0), *silver = client(zone, "silver", 0, 1, 0);
+  static struct request first, left[2 * MANY];
+  is_granted(zone, &first, gold, 1);
+  for (int i = 0; i < 2 * MANY; i++)
+    is_granted(zone, &left[i], i % 2 ? gold : silver, 1);
+  for (int i = 0; i < 2 * MANY; i++)
+    zone_leave(zone, &left[i], 2);
+  CHECK(zone_turn(zone, 2) == NULL && (gold->queued == MANY) != (silver->queued == MANY));
+  CHECK(zone_turn(zone, zone_next_turn(zone)) == NULL && gold->queued < MANY && silver->queued < MANY);
+  uint64_t end = drain(zone, zone_next_turn(zone));
+  CHECK(!zone->giving_up && !gold->is_giving_up && !silver->is_giving_up && gold->left + silver->left == 2 * MANY);
+  zone_leave(zone, &first, end);
+  zone_close(zone);
+}
+
+/* A client that is not kept stays while a request of it is to be cancelled. */
+static void cancelled_and_forgotten(void)
+{
+  struct zone_config config = one_at_once;
+  config.idle = config.erase = SECOND;
+  struct zone *zone = opened(&config);
+  struct client *gold = client(zone, "gold", 0, 1, 0);
+  struct rates rates = {0, 1, 0};
+  struct client *a = zone_client(zone, "a", &rates, false, 0);
+  struct request first, request;
+  uint64_t late = 10 * (uint64_t)SECOND;
+  is_granted(zone, &first, gold, 0);
+  CHECK(come_and_go(zone, &request, a, 1) == REFUSED_NOT);
+  CHECK(zone_turn(zone, late) == NULL && zone_find(zone, "a") == a && a->given_up == 1);
+  CHECK(zone_leave(zone, &first, late) == NULL && zone->queued == 0 && zone_find(zone, "a") == a);
+  CHECK(zone_turn(zone, late + SECOND) == NULL && zone_find(zone, "a") == NULL && zone_find(zone, "gold") == gold);
+  zone_close(zone);
+}
+
+/* If the queue does not have a request that is queued, nothing is granted any more, and all waits end. */
+static void lost_in_queue(void)
+{
+  struct zone *zone = opened(&one_at_once);
+  struct client *gold = client(zone, "gold", 0, 1, 0);
+  struct request requests[3];
+  uint32_t removed = 0;
+  for (int i = 0; i < 3; i++)
+    is_granted(zone, &requests[i], gold, 1);
+  CHECK(dmc_queue_remove(&zone->queue, gold->id, &removed) == DMC_OK && removed == 2);
+  zone_leave(zone, &requests[1], 2);
+  CHECK(!zone->fault && zone_leave(zone, &requests[0], 2) == NULL && zone->fault && zone_next_turn(zone) == 0);
+  CHECK(zone_turn(zone, 3) == &requests[2] && requests[2].state == REQUEST_EXPIRED && refusal(zone, gold, 4) == REFUSED_FAULT);
   zone_close(zone);
 }
 
@@ -216,8 +438,8 @@ static void limited(void)
   CHECK(is_granted(zone, &first, batch, start) && !is_granted(zone, &second, batch, start + 1) && zone_retry_after(zone, start + 1) == 0);
   CHECK(zone_leave(zone, &first, start + 2) == NULL && zone_next_turn(zone) == due && zone_retry_after(zone, start + 2) == due - start - 2);
   CHECK(zone_turn(zone, due - 1) == NULL && zone_turn(zone, due) == &second);
-  CHECK(!is_granted(zone, &third, batch, due) && zone_leave(zone, &third, due) == NULL);
-  CHECK(zone_leave(zone, &second, due) == NULL && zone->queued == 1 && zone_next_turn(zone) == next);
+  CHECK(!is_granted(zone, &third, batch, due) && zone_leave(zone, &second, due) == NULL && zone_next_turn(zone) == next);
+  CHECK(zone_leave(zone, &third, due + 1) == NULL && zone->queued == 1 && zone_next_turn(zone) == next);
   CHECK(zone_turn(zone, next) == NULL && zone->queued == 0);
   zone_close(zone);
 }
@@ -245,18 +467,22 @@ static void stamped(void)
   struct request first, second = {0}, *woken;
   uint64_t due = SECOND + SECOND / 2;
   is_granted(zone, &first, batch, SECOND);
-  CHECK(zone_enter(zone, &second, batch, (struct dmc_stamp){5, 0}, SECOND, &woken) == REFUSED_NOT && !woken);
+  CHECK(zone_enter(zone, &second, batch, (struct dmc_stamp){5, 0, 1}, SECOND, &woken) == REFUSED_NOT && !woken);
   CHECK(zone_leave(zone, &first, SECOND + 1) == NULL && zone_next_turn(zone) == due && zone_turn(zone, due) == &second);
   zone_leave(zone, &second, due);
   zone_close(zone);
 }
 
-static enum refusal refusal(struct zone *zone, struct client *client, uint64_t now)
+/* What grants cost is counted. */
+static void counted_costs(void)
 {
+  struct zone *zone = opened(&one_at_once);
+  struct client *batch = client(zone, "batch", 0, 1, 0);
   struct request request = {0}, *woken;
-  enum refusal refusal = zone_enter(zone, &request, client, one, now, &woken);
-  CHECK(woken == NULL && request.state == REQUEST_NEW);
-  return refusal;
+  CHECK(zone_enter(zone, &request, batch, (struct dmc_stamp){7, 7, 7}, SECOND, &woken) == REFUSED_NOT && woken == &request);
+  CHECK(batch->grants[DMC_PRIORITY] == 1 && batch->costs[DMC_PRIORITY] == 7 && batch->costs[DMC_RESERVATION] == 0);
+  zone_leave(zone, &request, SECOND + 1);
+  zone_close(zone);
 }
 
 static void full(void)
@@ -273,17 +499,15 @@ static void full(void)
   is_granted(zone, &requests[3], silver, 1);
   CHECK(refusal(zone, silver, 1) == REFUSED_FULL && silver->refused == 1);
   zone_leave(zone, &requests[1], 2);
-  CHECK(refusal(zone, silver, 2) == REFUSED_FULL);
+  CHECK(!is_granted(zone, &requests[4], silver, 2) && zone->waiting == 3 && refusal(zone, gold, 2) == REFUSED_FULL);
   zone_leave(zone, &requests[0], 3);
-  is_granted(zone, &requests[4], silver, 3);
-  CHECK(zone->queued <= 3);
   for (int i = 2; i < 5; i++)
     zone_leave(zone, &requests[i], 4);
   zone_leave(zone, &requests[2], 5);
   zone_close(zone);
 }
 
-/* Waits that take too long end, the earliest first; their places in the queue stay. */
+/* Waits that take too long end, the earliest first, and are cancelled. */
 static void expired(void)
 {
   struct zone_config config = one_at_once;
@@ -297,7 +521,8 @@ static void expired(void)
   is_granted(zone, &requests[3], gold, 50);
   CHECK(zone_next_turn(zone) == 102 && zone_turn(zone, 101) == NULL);
   CHECK(zone_turn(zone, 103) == &requests[1] && requests[1].next == &requests[2] && requests[2].next == NULL);
-  CHECK(requests[1].state == REQUEST_EXPIRED && requests[2].state == REQUEST_EXPIRED && gold->expired == 2 && zone->queued == 3);
+  CHECK(requests[1].state == REQUEST_EXPIRED && requests[2].state == REQUEST_EXPIRED && gold->expired == 2);
+  CHECK(zone->waiting == 1 && zone->queued == 3 && gold->given_up == 2);
   CHECK(zone_next_turn(zone) == 150 && zone_leave(zone, &requests[1], 104) == NULL && gold->left == 0);
   CHECK(zone_leave(zone, &requests[0], 105) == &requests[3] && zone->queued == 0);
   zone_leave(zone, &requests[3], 106);
@@ -339,7 +564,7 @@ static void begins(void)
   config.idle = config.erase = SECOND;
   struct zone *zone = opened(&config);
   struct client *batch = client(zone, "batch", 0, 1, 1);
-  struct dmc_stamp many = {4000000000u, 1};
+  struct dmc_stamp many = {4000000000u, 1, 1};
   for (uint64_t seconds = 0; seconds < 40; seconds += 10) {
     struct request request = {0}, second = {0}, *woken;
     CHECK(zone_enter(zone, &request, batch, many, seconds * SECOND, &woken) == REFUSED_NOT && woken == &request);
@@ -397,7 +622,7 @@ static bool is_stamp(const struct try *try, uint32_t delta, uint32_t rho)
 static void serve(struct tenants *tenants, const char *name, uint32_t server, enum outcome outcome)
 {
   struct try try;
-  CHECK(tenants_begin(tenants, name, server, &try));
+  CHECK(tenants_begin(tenants, name, server, 1, &try));
   tenants_end(tenants, &try, outcome);
 }
 
@@ -410,8 +635,8 @@ static void tracked(enum dmc_counting counting, uint32_t own)
   serve(tenants, "gold", 0, OUTCOME_PRIORITY);
   serve(tenants, "gold", 0, OUTCOME_EXPIRED);
   serve(tenants, "silver", 1, OUTCOME_PRIORITY);
-  CHECK(tenants_begin(tenants, "gold", 1, &try) && is_stamp(&try, 2 + own, 1 + own));
-  CHECK(tenants_begin(tenants, "gold", 1, &at_once) && is_stamp(&at_once, own, own));
+  CHECK(tenants_begin(tenants, "gold", 1, 1, &try) && is_stamp(&try, 2 + own, 1 + own));
+  CHECK(tenants_begin(tenants, "gold", 1, 1, &at_once) && is_stamp(&at_once, own, own));
   tenants_end(tenants, &try, OUTCOME_PRIORITY);
   tenants_end(tenants, &at_once, OUTCOME_PRIORITY);
   CHECK(tenants->count == 2 && tenants->counts[0].completions[DMC_RESERVATION] == 1 && tenants->counts[0].expired == 1);
@@ -429,11 +654,40 @@ static void carried(enum dmc_counting counting, uint32_t own)
   serve(tenants, "gold", 1, OUTCOME_RETURNED);
   serve(tenants, "gold", 0, OUTCOME_PRIORITY);
   serve(tenants, "gold", 1, OUTCOME_RETURNED);
-  CHECK(tenants_begin(tenants, "gold", 1, &try) && is_stamp(&try, 4 + own, 3 + own));
+  CHECK(tenants_begin(tenants, "gold", 1, 1, &try) && is_stamp(&try, 4 + own, 3 + own));
   tenants_end(tenants, &try, OUTCOME_PRIORITY);
-  CHECK(tenants_begin(tenants, "gold", 1, &try) && try.stamp.delta == 1);
+  CHECK(tenants_begin(tenants, "gold", 1, 1, &try) && try.stamp.delta == 1);
   tenants_end(tenants, &try, OUTCOME_PRIORITY);
   CHECK(tenants->counts[1].returned == 2 && tenants->lost == 0);
+  tenants_close(tenants);
+}
+
+/* A completion counts what its request cost, in the stamps to other servers. */
+static void costs(enum dmc_counting counting)
+{
+  struct tenants *tenants = front_of(2, 10, counting);
+  bool is_others = counting == DMC_OTHERS;
+  struct try try;
+  CHECK(tenants_begin(tenants, "gold", 0, 8, &try) && is_stamp(&try, is_others ? 8 : 0, is_others ? 8 : 0) && try.stamp.cost == 8);
+  tenants_end(tenants, &try, OUTCOME_RESERVATION);
+  CHECK(tenants_begin(tenants, "gold", 1, 3, &try) && is_stamp(&try, is_others ? 11 : 8, is_others ? 11 : 8));
+  tenants_end(tenants, &try, OUTCOME_RETURNED); /* whose own cost of 3 is not served */
+  CHECK(tenants_begin(tenants, "gold", 1, 2, &try) && is_stamp(&try, is_others ? 10 : 8, is_others ? 10 : 8));
+  tenants_end(tenants, &try, OUTCOME_PRIORITY);
+  tenants_close(tenants);
+}
+
+/* What a server granted to abandoned requests counts as a completion there, in the stamps to others. */
+static void abandoned(void)
+{
+  struct tenants *tenants = front_of(2, 10, DMC_OTHERS);
+  struct try try;
+  CHECK(tenants_begin(tenants, "gold", 0, 1, &try));
+  tenants_add(tenants, &try, (const uint32_t[2]){[DMC_RESERVATION] = 3, [DMC_PRIORITY] = 4});
+  tenants_end(tenants, &try, OUTCOME_EXPIRED);
+  CHECK(tenants_begin(tenants, "gold", 1, 1, &try) && is_stamp(&try, 8, 4));
+  tenants_end(tenants, &try, OUTCOME_PRIORITY);
+  CHECK(tenants->counts[0].abandoned == 7 && tenants->counts[0].expired == 1 && tenants->counts[0].completions[DMC_PRIORITY] == 0);
   tenants_close(tenants);
 }
 
@@ -443,11 +697,11 @@ static void lost(void)
   struct tenants *tenants = front_of(2, 10, DMC_ALL);
   struct try try;
   serve(tenants, "gold", 0, OUTCOME_PRIORITY);
-  CHECK(tenants_begin(tenants, "gold", 1, &try) && is_stamp(&try, 1, 0));
+  CHECK(tenants_begin(tenants, "gold", 1, 1, &try) && is_stamp(&try, 1, 0));
   try.stamp.delta = UINT32_MAX;
   tenants_end(tenants, &try, OUTCOME_RETURNED);
   serve(tenants, "gold", 0, OUTCOME_PRIORITY);
-  CHECK(tenants_begin(tenants, "gold", 1, &try) && is_stamp(&try, 1, 0) && tenants->lost == 1);
+  CHECK(tenants_begin(tenants, "gold", 1, 1, &try) && is_stamp(&try, 1, 0) && tenants->lost == 1);
   tenants_end(tenants, &try, OUTCOME_PRIORITY);
   tenants_close(tenants);
 }
@@ -462,11 +716,11 @@ static void forgotten(void)
   serve(tenants, "a", 0, OUTCOME_PRIORITY);
   serve(tenants, "c", 0, OUTCOME_PRIORITY);
   CHECK(tenants->forgotten == 1 && tenants->count == 2);
-  CHECK(tenants_begin(tenants, "a", 1, &a) && is_stamp(&a, 2, 0));
-  CHECK(tenants_begin(tenants, "b", 1, &b) && is_stamp(&b, 0, 0) && tenants->forgotten == 2);
-  CHECK(!tenants_begin(tenants, "c", 1, &c) && tenants->count == 2);
+  CHECK(tenants_begin(tenants, "a", 1, 1, &a) && is_stamp(&a, 2, 0));
+  CHECK(tenants_begin(tenants, "b", 1, 1, &b) && is_stamp(&b, 0, 0) && tenants->forgotten == 2);
+  CHECK(!tenants_begin(tenants, "c", 1, 1, &c) && tenants->count == 2);
   tenants_end(tenants, &a, OUTCOME_PRIORITY);
-  CHECK(tenants_begin(tenants, "c", 1, &c) && tenants->forgotten == 3);
+  CHECK(tenants_begin(tenants, "c", 1, 1, &c) && tenants->forgotten == 3);
   tenants_end(tenants, &b, OUTCOME_PRIORITY);
   tenants_end(tenants, &c, OUTCOME_PRIORITY);
   CHECK(!tenants->busy.first && tenants->quiet.first == b.tenant && tenants->quiet.last == c.tenant);
@@ -481,7 +735,7 @@ static void tenant_without_memory(void)
   bool is_begun = false;
   for (; !is_begun && tries < 100; tries++) {
     granted = tries;
-    is_begun = tenants_begin(tenants, "a", 0, &try);
+    is_begun = tenants_begin(tenants, "a", 0, 1, &try);
     granted = -1ul;
     CHECK(is_begun || !tenants->busy.first);
   }
@@ -523,15 +777,25 @@ static void said(void)
 int main(void)
 {
   counts();
-  returned();
+  written_costs();
   outcomes();
   in_turn();
-  passed_on();
-  many_passed_on();
+  cancelled();
+  given_back(DMC_OTHERS);
+  given_back(DMC_ALL);
+  costly_given_up();
+  many_given_up();
+  many_cancelled();
+  come_and_gone();
+  all_come_and_gone();
+  cancelled_in_turn();
+  cancelled_and_forgotten();
+  lost_in_queue();
   rejected();
   limited();
   reserved();
   stamped();
+  counted_costs();
   full();
   expired();
   crowded();
@@ -541,6 +805,9 @@ int main(void)
   tracked(DMC_OTHERS, 1);
   carried(DMC_ALL, 0);
   carried(DMC_OTHERS, 1);
+  costs(DMC_ALL);
+  costs(DMC_OTHERS);
+  abandoned();
   lost();
   forgotten();
   tenant_without_memory();

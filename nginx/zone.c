@@ -12,17 +12,27 @@
 /* The most grants of requests that have left in one go, so that other events of the thread have their turn. */
 #define MOST_PASSED 1000
 
+/* How many requests are walked over in one go, to cancel some of them: for a millisecond or two. Until the next go it is about as long
+   again, in nanoseconds for each request that was walked over. */
+#define MOST_WALKED 8192
+#define PAUSE 500
+
+/* How many more requests that are given up a client has than others, before they are cancelled whether or not one is due. */
+#define MOST_GIVEN_UP 64
+
 /* ---- tokens: the token of a request is its place in the list */
 
 struct place {
   struct client *client;
   struct request *request; /* NULL, if it has left or has expired */
-  uint32_t next_free;
+  enum dmc_counting counting;
+  uint32_t cost;
+  uint32_t earlier, later; /* the requests of its client before it and behind it; `later` of a free place is the next free one */
 };
 
 static void free_token(struct zone *zone, uint32_t token)
 {
-  zone->places[token] = (struct place){.next_free = zone->free_token};
+  zone->places[token] = (struct place){.later = zone->free_token};
   zone->free_token = token;
 }
 
@@ -40,16 +50,63 @@ static bool add_tokens(struct zone *zone)
   return true;
 }
 
-static bool take_token(struct zone *zone, struct request *request, struct client *client)
+static bool take_token(struct zone *zone, struct request *request, struct client *client, uint32_t cost)
 {
   if (zone->free_token == NO_TOKEN && !add_tokens(zone))
     return false;
   request->token = zone->free_token;
   struct place *place = &zone->places[request->token];
-  zone->free_token = place->next_free;
-  place->client = client;
-  place->request = request;
+  zone->free_token = place->later;
+  *place = (struct place){client, request, request->counting, cost, NO_TOKEN, NO_TOKEN};
   return true;
+}
+
+/* ---- requests in the queue */
+
+/* A request of a client waits no more: the first one that still waits is another one, if it was this one. */
+static void pass_waiting(const struct zone *zone, struct client *client, uint32_t token)
+{
+  if (client->first_waiting != token)
+    return;
+  do
+    token = zone->places[token].later;
+  while (token != NO_TOKEN && !zone->places[token].request);
+  client->first_waiting = token;
+}
+
+/* Says that what is given up is to be cancelled at once, if a request of the client that waits may be due before its earliest one, which
+   is given up, would be: it costs less. */
+static void see_costs(struct zone *zone, const struct client *client)
+{
+  if (client->first_waiting != NO_TOKEN && zone->places[client->first_waiting].cost < zone->places[client->earliest].cost)
+    zone->is_pressing = true;
+}
+
+/* A request is in the queue, as the latest one of its client. */
+static void join_queue(struct zone *zone, const struct request *request)
+{
+  struct client *client = request->client;
+  zone->places[request->token].earlier = client->latest;
+  *(client->latest != NO_TOKEN ? &zone->places[client->latest].later : &client->earliest) = request->token;
+  client->latest = request->token;
+  if (client->first_waiting == NO_TOKEN)
+    client->first_waiting = request->token;
+  zone->queued++;
+  client->queued++;
+  see_costs(zone, client);
+}
+
+/* A request is no longer in the queue. */
+static void leave_queue(struct zone *zone, uint32_t token)
+{
+  struct place left = zone->places[token];
+  pass_waiting(zone, left.client, token);
+  free_token(zone, token);
+  *(left.later != NO_TOKEN ? &zone->places[left.later].earlier : &left.client->latest) = left.earlier;
+  *(left.earlier != NO_TOKEN ? &zone->places[left.earlier].later : &left.client->earliest) = left.later;
+  zone->queued--;
+  left.client->queued--;
+  left.client->given_up -= !left.request;
 }
 
 /* ---- those that wait */
@@ -63,7 +120,7 @@ static void append_wait(struct zone *zone, struct request *request)
   zone->waiting++;
 }
 
-/* A request waits no more: it is granted, has left or has expired. The queue may have it still. */
+/* A request waits no more: it is granted, has left or has expired. */
 static void end_wait(struct zone *zone, struct request *request)
 {
   *request->link = request->next;
@@ -71,7 +128,6 @@ static void end_wait(struct zone *zone, struct request *request)
     request->next->link = request->link;
   else
     zone->last_wait = request->link;
-  zone->places[request->token].request = NULL;
   zone->waiting--;
 }
 
@@ -100,11 +156,11 @@ static uint32_t add_request(struct zone *zone, const struct client *client, uint
 {
   struct dmc_tags tags;
   uint64_t moment = clock_moment(now);
-  uint32_t code = dmc_queue_add(&zone->queue, client->id, token, stamp.delta, stamp.rho, moment, &tags);
+  uint32_t code = dmc_queue_add(&zone->queue, client->id, token, stamp.delta, stamp.rho, stamp.cost, moment, &tags);
   if (code != DMC_UNKNOWN)
     return code;
   code = register_client(zone, client, now);
-  return code == DMC_OK ? dmc_queue_add(&zone->queue, client->id, token, 0, 0, moment, &tags) : code;
+  return code == DMC_OK ? dmc_queue_add(&zone->queue, client->id, token, 0, 0, stamp.cost, moment, &tags) : code;
 }
 
 static enum refusal refusal_of(uint32_t code)
@@ -119,22 +175,108 @@ static enum refusal refusal_of(uint32_t code)
   }
 }
 
+/* ---- requests that are given up */
+
+static uint64_t least(uint64_t a, uint64_t b)
+{
+  return a < b ? a : b;
+}
+
+/* Puts a client behind those that have given up requests. */
+static void append_giving_up(struct zone *zone, struct client *client)
+{
+  client->is_giving_up = true;
+  client->next_giving_up = NULL;
+  *zone->last_giving_up = client;
+  zone->last_giving_up = &client->next_giving_up;
+}
+
+/* Takes out the first one of them. */
+static struct client *take_giving_up(struct zone *zone)
+{
+  struct client *client = zone->giving_up;
+  zone->giving_up = client->next_giving_up;
+  if (!zone->giving_up)
+    zone->last_giving_up = &zone->giving_up;
+  client->is_giving_up = false;
+  return client;
+}
+
+/* The wait for a request ends without a grant, and it is to be cancelled: when one may be granted; or at once, if there are many or if
+   they may keep another one from being due. */
+static void give_up(struct zone *zone, struct request *request, enum request_state state, uint64_t now)
+{
+  struct client *client = request->client;
+  end_wait(zone, request);
+  request->state = state;
+  zone->places[request->token].request = NULL;
+  pass_waiting(zone, client, request->token);
+  client->given_up++;
+  see_costs(zone, client);
+  if (client->queued + MOST_GIVEN_UP < 2 * client->given_up || zone->config.most_queued <= zone->queued - zone->waiting)
+    zone->is_pressing = true;
+  if (zone->is_pressing)
+    zone->due = least(zone->due, now);
+  if (!client->is_giving_up)
+    append_giving_up(zone, client);
+}
+
+/* Takes a request out of the queue, which gives back what it was charged. */
+static void cancel(struct zone *zone, uint32_t token)
+{
+  const struct place *place = &zone->places[token];
+  uint32_t removed = 0;
+  uint32_t code = dmc_queue_cancel(&zone->queue, place->client->id, token, place->counting, &removed);
+  if (code == DMC_OK && removed == 1)
+    leave_queue(zone, token);
+  else
+    zone->fault = "it does not have a request that is queued";
+}
+
+/* Cancels what a client has given up, from the latest to the earliest, so that each gives back all that it was charged: behind one that
+   was cancelled, another gives back no more than that had left ("Slack" in docs/RULES.md). The queue walks over all requests of the
+   client for each. */
+static void cancel_latest(struct zone *zone, struct client *client, uint32_t *walked)
+{
+  uint32_t token = client->latest;
+  while (client->given_up && *walked < MOST_WALKED && !zone->fault) {
+    struct place place = zone->places[token];
+    if (!place.request) {
+      *walked += client->queued;
+      cancel(zone, token);
+    }
+    token = place.earlier;
+  }
+}
+
+/* Cancels what is given up, until the queue has walked over many. A client that still has some is then the last one. */
+static void cancel_some(struct zone *zone, uint64_t now)
+{
+  uint32_t walked = 0;
+  while (zone->giving_up && zone->next_cancel <= now && !zone->fault) {
+    struct client *client = take_giving_up(zone);
+    cancel_latest(zone, client, &walked);
+    if (MOST_WALKED <= walked)
+      zone->next_cancel = now + (uint64_t)walked * PAUSE;
+    if (client->given_up)
+      append_giving_up(zone, client);
+  }
+  zone->is_pressing = false;
+}
+
 /* ---- grants */
 
 /* What the queue granted is no longer in it. Returns the request, or NULL if it has left or has expired. */
 static struct request *grant(struct zone *zone, const struct dmc_pulled *pulled, uint64_t now)
 {
-  struct place *place = &zone->places[pulled->token];
-  struct request *request = place->request;
-  struct client *client = place->client;
-  if (request)
-    end_wait(zone, request);
-  free_token(zone, pulled->token);
-  zone->queued--;
-  client->queued--;
+  struct request *request = zone->places[pulled->token].request;
+  struct client *client = zone->places[pulled->token].client;
+  leave_queue(zone, pulled->token);
   if (!request)
     return NULL;
+  end_wait(zone, request);
   client->grants[pulled->phase]++;
+  client->costs[pulled->phase] += pulled->cost;
   client->beyond += pulled->beyond;
   buckets_count(&client->waited[pulled->phase], now - request->entered);
   client->under_way++;
@@ -157,12 +299,17 @@ static bool pull(struct zone *zone, struct dmc_pulled *pulled, uint64_t now)
   return pulled->kind == DMC_GRANTED;
 }
 
-/* Grants what the queue grants now, while the device has room, and appends it to a list. It is called when either may have changed.
-   A grant of a request that has left takes no room; after many of these the next turn goes on. */
+/* Grants what the queue grants now, while the device has room, and appends it to a list. It is called when either may have changed. What
+   is given up is cancelled before, if one of it may be due, or if it presses: all that left since the last time together, and not each
+   as it leaves, since then they give back more. A grant of what is not cancelled in time takes no room; after many such grants the next
+   turn goes on. */
 static void dispatch(struct zone *zone, uint64_t now, struct request **last)
 {
   struct dmc_pulled pulled;
   uint32_t passed = 0;
+  bool may_be_due = zone->due == NEVER && zone->under_way < zone->config.depth;
+  if (zone->is_pressing || zone->due <= now || may_be_due)
+    cancel_some(zone, now);
   zone->due = NEVER;
   while (!zone->fault && zone->queued && zone->under_way < zone->config.depth && passed < MOST_PASSED && pull(zone, &pulled, now)) {
     struct request *request = grant(zone, &pulled, now);
@@ -175,6 +322,8 @@ static void dispatch(struct zone *zone, uint64_t now, struct request **last)
   }
   if (passed == MOST_PASSED)
     zone->due = now;
+  if (now < zone->next_cancel)
+    zone->due = least(zone->due, zone->next_cancel);
 }
 
 /* ---- clients */
@@ -223,6 +372,7 @@ static struct client *new_client(struct zone *zone, const char *name, const stru
   client->name = strdup(name);
   client->rates = *rates;
   client->is_kept = is_kept;
+  client->earliest = client->latest = client->first_waiting = NO_TOKEN;
   if (client->name && tsearch(client, &zone->names, by_name))
     return client;
   spare_client(zone, client);
@@ -263,7 +413,8 @@ static void forget(struct zone *zone, struct client *client)
 /* Whether the zone may forget a client: the queue has forgotten it. */
 static bool is_forgotten(const struct zone *zone, const struct client *client, uint64_t now)
 {
-  return !client->is_kept && !client->queued && !client->under_way && zone->config.erase < now - client->last_request;
+  bool is_used = client->queued || client->under_way || client->is_giving_up;
+  return !client->is_kept && !is_used && zone->config.erase < now - client->last_request;
 }
 
 static void forget_clients(struct zone *zone, uint64_t now)
@@ -288,12 +439,6 @@ static void clean(struct zone *zone, uint64_t now)
 
 /* ---- waits that end without a grant */
 
-static void leave_queue(struct zone *zone, struct request *request, enum request_state state)
-{
-  end_wait(zone, request);
-  request->state = state;
-}
-
 /* Whether the first one of those that wait has waited for too long. If nothing is granted any more, each has. */
 static bool is_expired(const struct zone *zone, uint64_t now)
 {
@@ -305,7 +450,7 @@ static struct request **expire(struct zone *zone, uint64_t now, struct request *
 {
   while (is_expired(zone, now)) {
     struct request *request = zone->waits;
-    leave_queue(zone, request, REQUEST_EXPIRED);
+    give_up(zone, request, REQUEST_EXPIRED, now);
     request->client->expired++;
     *last = request;
     last = &request->next;
@@ -323,6 +468,7 @@ bool zone_open(struct zone *zone, const struct zone_config *config)
   zone->next_clean = config->idle / 4 + 1;
   zone->last_client = &zone->first;
   zone->last_wait = &zone->waits;
+  zone->last_giving_up = &zone->giving_up;
   zone->free_token = NO_TOKEN;
   return open_queue(zone);
 }
@@ -345,13 +491,23 @@ void zone_close(struct zone *zone)
   dmc_queue_free(&zone->queue);
 }
 
+/* Whether no more requests may wait. As many again, and some, may be given up and not cancelled yet: who lets requests come and go faster
+   than they are cancelled would else fill the queue, and the time of each cancel grows with the client's requests. */
+static bool is_full(uint32_t waiting, uint32_t queued, uint32_t most)
+{
+  return most <= waiting || 2 * most + MOST_GIVEN_UP <= queued;
+}
+
 /* Why a request can't even be given to the queue. */
 static enum refusal refusal_before(const struct zone *zone, const struct client *client)
 {
-  return zone->fault                                       ? REFUSED_FAULT
-         : zone->config.most_queued <= zone->queued         ? REFUSED_FULL
-         : zone->config.most_of_client <= client->queued    ? REFUSED_CLIENT_FULL
-                                                            : REFUSED_NOT;
+  const struct zone_config *config = &zone->config;
+  if (zone->fault)
+    return REFUSED_FAULT;
+  if (is_full(zone->waiting, zone->queued, config->most_queued))
+    return REFUSED_FULL;
+  uint32_t waiting = client->queued - client->given_up;
+  return is_full(waiting, client->queued, config->most_of_client) ? REFUSED_CLIENT_FULL : REFUSED_NOT;
 }
 
 static enum refusal submit(struct zone *zone, struct request *request, struct client *client, struct dmc_stamp stamp, uint64_t now)
@@ -359,7 +515,7 @@ static enum refusal submit(struct zone *zone, struct request *request, struct cl
   enum refusal refusal = refusal_before(zone, client);
   if (refusal)
     return refusal;
-  if (!take_token(zone, request, client))
+  if (!take_token(zone, request, client, stamp.cost))
     return REFUSED_MEMORY;
   refusal = refusal_of(add_request(zone, client, request->token, stamp, now));
   if (refusal) {
@@ -370,8 +526,7 @@ static enum refusal submit(struct zone *zone, struct request *request, struct cl
   request->state = REQUEST_WAITS;
   request->entered = now;
   append_wait(zone, request);
-  zone->queued++;
-  client->queued++;
+  join_queue(zone, request);
   client->requests++;
   client->last_request = now;
   return REFUSED_NOT;
@@ -393,7 +548,7 @@ struct request *zone_leave(struct zone *zone, struct request *request, uint64_t 
 {
   struct request *woken = NULL;
   if (request->state == REQUEST_WAITS) {
-    leave_queue(zone, request, REQUEST_ENDED);
+    give_up(zone, request, REQUEST_ENDED, now);
     request->client->left++;
   } else if (request->state == REQUEST_GRANTED) {
     request->state = REQUEST_ENDED;
@@ -411,11 +566,6 @@ struct request *zone_turn(struct zone *zone, uint64_t now)
     clean(zone, now);
   dispatch(zone, now, expire(zone, now, &woken));
   return woken;
-}
-
-static uint64_t least(uint64_t a, uint64_t b)
-{
-  return a < b ? a : b;
 }
 
 uint64_t zone_next_turn(const struct zone *zone)

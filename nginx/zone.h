@@ -19,7 +19,7 @@
 struct zone_config {
   const char *name;
   uint32_t depth;
-  uint32_t most_queued;    /* requests in the queue */
+  uint32_t most_queued;    /* requests that wait; as many again, and some, may be given up */
   uint32_t most_of_client; /* those of one client */
   uint32_t most_others;    /* clients that are not kept */
   enum dmc_at_limit at_limit;
@@ -35,20 +35,28 @@ struct client {
   struct rates rates;
   uint32_t id;
   bool is_kept;            /* it is never forgotten */
-  uint32_t queued;         /* requests in the queue, those that have left or expired among them */
+  uint32_t queued;         /* requests in the queue */
+  uint32_t given_up;       /* those of them that have left or expired, and are to be cancelled */
+  uint32_t earliest, latest; /* the places of its first queued request and of its last one, */
+  uint32_t first_waiting;  /* and of the first one that is not given up */
   uint32_t under_way;
   uint64_t requests, grants[2]; /* the grants by dmc_phase */
+  uint64_t costs[2];       /* what these cost */
   uint64_t beyond;         /* those of them beyond the limit */
   uint64_t refused, left, expired; /* requests that were not queued; that left while they waited; that waited for too long */
+  uint64_t abandoned[2];   /* what grants cost, by dmc_phase, that their trackers do not know of: the caller counts them */
   uint64_t last_request;
   struct buckets waited[2]; /* from entering to the grant, by dmc_phase */
   struct client *next, **link; /* the next one, and what points to this one */
+  struct client *next_giving_up; /* of those that may have requests that are given up */
+  bool is_giving_up;       /* it is one of these */
 };
 
 enum request_state { REQUEST_NEW, REQUEST_WAITS, REQUEST_GRANTED, REQUEST_EXPIRED, REQUEST_ENDED };
 
-/* A request, in the caller's memory, which stays where it is until the request has left. Starts as zeros. */
+/* A request, in the caller's memory, which stays where it is until the request has left. Starts as zeros, but for the counting. */
 struct request {
+  enum dmc_counting counting; /* of the tracker that stamped it; DMC_OTHERS, if it counts its own cost alone */
   struct client *client;
   enum request_state state;
   enum dmc_phase phase;    /* of the grant */
@@ -65,7 +73,10 @@ struct zone {
   struct dmc_queue queue;
   uint32_t under_way;      /* requests at the device */
   uint32_t waiting;        /* requests that wait */
-  uint32_t queued;         /* requests in the queue, those that have left or expired among them */
+  uint32_t queued;         /* requests in the queue; those beyond `waiting` are given up */
+  struct client *giving_up, **last_giving_up; /* clients that may have such requests */
+  bool is_pressing;        /* they are to be cancelled at once */
+  uint64_t next_cancel;    /* when some of these are cancelled next, after many were */
   uint64_t due;            /* when the next request is due; NEVER if that is not known */
   uint64_t next_clean;
   uint64_t stamped, untrusted, malformed; /* requests by their stamps, and requests of names that are no client: the caller counts them */
@@ -109,8 +120,8 @@ struct client *zone_client(struct zone *, const char *name, const struct rates *
    be: these are in the list `woken`, and so is it, if it is granted. */
 enum refusal zone_enter(struct zone *, struct request *, struct client *, struct dmc_stamp, uint64_t now, struct request **woken);
 
-/* A request leaves: the device is done with it, or its caller no longer waits for it. The queue keeps one that was waiting: its grant
-   passes to the next. Returns those that are granted now. */
+/* A request leaves: the device is done with it, or its caller no longer waits for it. One that was waiting is cancelled before the next
+   request is granted, and what it was charged is given back to the client's later ones. Returns those that are granted now. */
 struct request *zone_leave(struct zone *, struct request *, uint64_t now);
 
 /* Grants what is due, and ends waits that took too long. Returns the requests that are granted or have expired. */

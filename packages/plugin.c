@@ -11,7 +11,7 @@ uint32_t plugin_grants(uint32_t token) {
   struct dmc_pulled pulled = {0};
   uint32_t code = dmc_queue_new(&queue, &config);
   if (code == DMC_OK) code = dmc_queue_register(&queue, 1, 10, 1, 0, 0);
-  if (code == DMC_OK) code = dmc_queue_add(&queue, 1, token, 1, 0, 0, &tags);
+  if (code == DMC_OK) code = dmc_queue_add(&queue, 1, token, 1, 0, 1, 0, &tags);
   if (code == DMC_OK) code = dmc_queue_pull(&queue, 0, &pulled);
   dmc_queue_free(&queue);
   return code == DMC_OK && dmc_version() == DMC_VERSION ? pulled.token : 0;

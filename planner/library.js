@@ -10,19 +10,19 @@ const COUNTING = { all: 0, others: 1 };
 const RESERVATION = 0; // DMC_RESERVATION
 const GRANTED = 0; // DMC_GRANTED
 const FUTURE = 1; // DMC_FUTURE
+const COST = 1; // of each request
 const TEXTS = new Map([
   [1, "out of memory"], [2, "none held"], [3, "held already"], [10, "bad moment"], [11, "bad params"], [12, "bad rate"],
-  [13, "bad config"], [14, "bad phase"], [15, "limit"], [20, "known"], [21, "unknown"], [22, "inexact reservation"],
-  [23, "inexact weight"], [24, "inexact limit"], [25, "clients"], [26, "queue full"], [27, "range"], [28, "busy"],
-  [29, "over limit"],
-  [30, "no server"], [31, "tracker full"],
+  [13, "bad config"], [14, "bad phase"], [15, "limit"], [16, "bad cost"], [20, "known"], [21, "unknown"],
+  [22, "inexact reservation"], [23, "inexact weight"], [24, "inexact limit"], [25, "clients"], [26, "queue full"], [27, "range"],
+  [28, "busy"], [29, "over limit"], [30, "no server"], [31, "tracker full"],
 ]);
 // Of the structs: their bytes, and where their fields are, in words of 32 bits.
 const HANDLE = { bytes: 16 };
 const CONFIG = { bytes: 48, hz: 0, idleAge: 2, eraseAge: 4, tagKind: 8, atLimit: 9, shares: 10 };
-const STAMP = { bytes: 8, delta: 0, rho: 1 };
+const STAMP = { bytes: 12, delta: 0, rho: 1 };
 const TAGS = { bytes: 80 };
-const PULLED = { bytes: 40, kind: 0, client: 1, token: 2, phase: 3, beyond: 4, dueLow: 6, dueHigh: 8 };
+const PULLED = { bytes: 40, kind: 0, client: 1, token: 2, phase: 3, beyond: 5, dueLow: 6, dueHigh: 8 };
 
 // A call's code that is not DMC_OK.
 class Refused extends Error {}
@@ -95,7 +95,7 @@ class Library {
   }
 
   add(queue, client, token, stamp, time) {
-    this.must(this.calls.dmc_queue_add(queue, client, token, stamp.delta, stamp.rho, BigInt(time), this.tags));
+    this.must(this.calls.dmc_queue_add(queue, client, token, stamp.delta, stamp.rho, COST, BigInt(time), this.tags));
   }
 
   // What is granted, or the time at which a request is due: infinite where none is, or past all times of the page.
@@ -121,11 +121,11 @@ class Library {
   }
 
   stamp(tracker, server) {
-    this.must(this.calls.dmc_tracker_stamp(tracker, server, this.stamped));
+    this.must(this.calls.dmc_tracker_stamp(tracker, server, COST, this.stamped));
     return { delta: this.word(this.stamped, STAMP.delta), rho: this.word(this.stamped, STAMP.rho) };
   }
 
   respond(tracker, server, phase) {
-    this.must(this.calls.dmc_tracker_respond(tracker, server, phase));
+    this.must(this.calls.dmc_tracker_respond(tracker, server, phase, COST));
   }
 }

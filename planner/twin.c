@@ -21,12 +21,12 @@ _Static_assert(sizeof(struct dmc_config) == 48 && offsetof(struct dmc_config, hz
 _Static_assert(offsetof(struct dmc_config, idle_age) == 8 && offsetof(struct dmc_config, erase_age) == 16, "CONFIG");
 _Static_assert(offsetof(struct dmc_config, threshold) == 24 && offsetof(struct dmc_config, tag_kind) == 32, "CONFIG");
 _Static_assert(offsetof(struct dmc_config, at_limit) == 36 && offsetof(struct dmc_config, shares) == 40, "CONFIG");
-_Static_assert(sizeof(struct dmc_stamp) == 8 && offsetof(struct dmc_stamp, rho) == 4, "STAMP");
+_Static_assert(sizeof(struct dmc_stamp) == 12 && offsetof(struct dmc_stamp, rho) == 4, "STAMP");
 _Static_assert(sizeof(struct dmc_tags) == 80, "TAGS");
 _Static_assert(sizeof(struct dmc_pulled) == 40, "PULLED");
 _Static_assert(offsetof(struct dmc_pulled, kind) == 0 && offsetof(struct dmc_pulled, client) == 4, "PULLED");
 _Static_assert(offsetof(struct dmc_pulled, token) == 8 && offsetof(struct dmc_pulled, phase) == 12, "PULLED");
-_Static_assert(offsetof(struct dmc_pulled, beyond) == 16 && offsetof(struct dmc_pulled, due_low) == 24, "PULLED");
+_Static_assert(offsetof(struct dmc_pulled, beyond) == 20 && offsetof(struct dmc_pulled, due_low) == 24, "PULLED");
 _Static_assert(offsetof(struct dmc_pulled, due_high) == 32, "PULLED");
 _Static_assert(DMC_FINE_HZ == 735134400 && DMC_TICK == 0 && DMC_WAIT == 0 && DMC_ALLOW == 1, "numbers");
 _Static_assert(DMC_CLOCK == 0 && DMC_VIRTUAL == 1, "numbers");
@@ -107,8 +107,8 @@ static void send(struct client *it, uint32_t id, struct server *servers, uint32_
   if (token == it->room)
     it->sent_at = grown(it->sent_at, it->room = 2 * it->room + 1024, sizeof *it->sent_at);
   it->sent_at[token] = now;
-  must(dmc_tracker_stamp(&it->tracker, to, &stamp));
-  must(dmc_queue_add(&servers[to].queue, id, token, stamp.delta, stamp.rho, now, &tags));
+  must(dmc_tracker_stamp(&it->tracker, to, 1, &stamp));
+  must(dmc_queue_add(&servers[to].queue, id, token, stamp.delta, stamp.rho, stamp.cost, now, &tags));
   it->under_way++;
   if (servers[to].serves < servers[to].depth)
     servers[to].pulls = now;
@@ -118,7 +118,7 @@ static void complete(struct server *it, uint32_t id, struct client *clients, uin
 {
   const struct grant *grant = &it->grants[it->first];
   struct client *whose = &clients[grant->client];
-  must(dmc_tracker_respond(&whose->tracker, id, grant->phase));
+  must(dmc_tracker_respond(&whose->tracker, id, grant->phase, 1));
   whose->under_way--;
   it->first = (it->first + 1) % MOST_DEPTH;
   it->serves--;

@@ -206,12 +206,13 @@ uint32_t dmc_tracker_status(struct dmc_tracker *, uint32_t server, struct dmc_tr
    A server of many cores may have a queue for each of its shards, each with a lock of its own. To the rules a shard is a server, so
    each queue has the client's full rates, and the stamp that a request brings to the server becomes that of its shard:
 
-     take the client's lock; dmc_shards_arrive(&shards, shard, &stamp)
-       take the shard's lock; dmc_queue_add(&queue, client, token, stamp.delta, stamp.rho, stamp.cost, at, &tags); release it
-       if the add was refused: dmc_shards_give_back(&shards, shard, &stamp)
+     take the client's lock; next = stamp; dmc_shards_next(&shards, shard, &next)
+       take the shard's lock; dmc_queue_add(&queue, client, token, next.delta, next.rho, next.cost, at, &tags); release it
+       if the add was accepted: dmc_shards_arrive(&shards, shard, &stamp)
      release the client's lock
 
-   So a client's requests reach a shard in the order of their stamps. A client's lock is taken before a shard's, never after it.
+   So a client's requests reach a shard in the order of their stamps, and one that is refused leaves no trace: its client keeps its
+   stamp. A client's lock is taken before a shard's, never after it.
    A client whose requests bring no stamps, since its tracker is at this server, needs none of this: its dmc_tracker stamps for the
    shards, as its servers. */
 
@@ -226,6 +227,10 @@ void dmc_shards_free(struct dmc_shards *);
    since the last stamp for this shard. The cost stays. DMC_NONE_HELD, DMC_BAD_PARAMS, DMC_BAD_COST, DMC_NO_SERVER,
    DMC_TRACK_FULL. */
 uint32_t dmc_shards_arrive(struct dmc_shards *, uint32_t shard, struct dmc_stamp *);
+
+/* Makes of the stamp that a request brought the one that dmc_shards_arrive would make, and changes nothing else. DMC_NONE_HELD,
+   DMC_BAD_PARAMS, DMC_BAD_COST, DMC_NO_SERVER, DMC_TRACK_FULL. */
+uint32_t dmc_shards_next(struct dmc_shards *, uint32_t shard, struct dmc_stamp *);
 
 /* The shard's queue refused the request of this stamp, which dmc_shards_arrive made: the next stamp for the shard carries its counts
    too. DMC_NONE_HELD, DMC_BAD_PARAMS, DMC_BAD_COST, DMC_NO_SERVER, DMC_NOT_SENT. */

@@ -579,6 +579,13 @@ class ShardTracker {
                            {params.delta, params.rho, params.cost});
   }
 
+  /// The stamp that arrive() would make; nothing changes. If the shard's queue refuses the request, it is then as if it had not come.
+  /// NoneHeld, BadParams, BadCost, NoServer, TrackFull.
+  Result<ReqParams> next(ServerId shard, ReqParams params) noexcept {
+    return Calls::of_stamp([&](dmc_stamp *stamp) { return dmc_shards_next(&shards_, shard.value(), stamp); },
+                           {params.delta, params.rho, params.cost});
+  }
+
   /// The shard's queue refused the request of this stamp, which arrive() made: the next stamp for the shard carries its counts too.
   /// NoneHeld, BadParams, BadCost, NoServer, NotSent.
   [[nodiscard]] Code give_back(ServerId shard, ReqParams params) noexcept {

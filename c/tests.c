@@ -512,16 +512,22 @@ static void run_trackers(void) {
 
 /* ---- shards */
 
-static void write_arrival(struct dmc_shards *shards, uint32_t shard, struct dmc_stamp stamp) {
+typedef uint32_t stamps(struct dmc_shards *, uint32_t shard, struct dmc_stamp *);
+
+static void write_stamped(stamps *call, struct dmc_shards *shards, uint32_t shard, struct dmc_stamp stamp) {
   struct dmc_stamp came = stamp;
   char word[64];
-  uint32_t answer = code(dmc_shards_arrive(shards, shard, &stamp));
+  uint32_t answer = code(call(shards, shard, &stamp));
   if (answer == DMC_OK) {
     snprintf(word, sizeof word, "(%u,%u)%s; ", stamp.delta, stamp.rho, stamp.cost == came.cost ? "" : " of another cost");
     write_text(word);
   } else {
     write_refused(answer, is_stamp(stamp, came.delta, came.rho, came.cost));
   }
+}
+
+static void write_arrival(struct dmc_shards *shards, uint32_t shard, struct dmc_stamp stamp) {
+  write_stamped(dmc_shards_arrive, shards, shard, stamp);
 }
 
 static void write_give_back(struct dmc_shards *shards, uint32_t shard, struct dmc_stamp stamp) {
@@ -566,12 +572,29 @@ static const char *skip_of_shard(void) {
   return text;
 }
 
+/* The next stamp is that of the arrival, and without an arrival nothing has come in. */
+static const char *next_stamps(void) {
+  struct dmc_shards shards = DMC_SHARDS_NONE;
+  text[0] = 0;
+  while (code(dmc_shards_new(&shards, 2, 6)) == DMC_MEMORY) write_text("");
+  write_arrival(&shards, 0, (struct dmc_stamp){2, 1, 1});
+  for (int i = 0; i < 2; i++) {
+    write_stamped(dmc_shards_next, &shards, 1, (struct dmc_stamp){3, 0, 4});
+    write_shard(&shards, 1);
+  }
+  write_arrival(&shards, 1, (struct dmc_stamp){3, 0, 4});
+  dmc_shards_free(&shards);
+  return text;
+}
+
 static void run_shards(void) {
   struct dmc_shards shards = dmc_shards_none();
   struct dmc_track track;
   expect_text("two_shards", three_arrivals(),
               "(2,1); (5,1); ok; (6,2); sent (2,1) pending (4,1) completions (6,2); "
               "sent (6,2) pending (0,0) completions (6,2); ");
+  expect_text("next_stamp", next_stamps(),
+              "(2,1); (5,1); sent (0,0) pending (2,1) completions (2,1); (5,1); sent (0,0) pending (2,1) completions (2,1); (5,1); ");
   expect_text("skipped_shard", skip_of_shard(),
               "(4294967295,1); refused tracker full; ok; (1,0); sent (1,0) pending (0,0) completions (4294967296,1); ");
   while (code(dmc_shards_new(&shards, 1, 5)) == DMC_MEMORY) continue;

@@ -386,6 +386,11 @@ static void run_shards() {
   expect("shards full", shards.arrive(ServerId(0), {1, 0}).code() == Code::TrackFull &&
                             shards.arrive(ServerId(2), {1, 0}).code() == Code::NoServer &&
                             shards.status(ServerId(2)).code() == Code::NoServer);
+  ShardTracker fresh = ShardTracker::make(2, 6).value();
+  all = reply(fresh.next(ServerId(1), {2, 1, 3}));
+  all += status(fresh, 1);
+  all += reply(fresh.arrive(ServerId(1), {2, 1, 3}));
+  expect_text("next_stamp", all, "(2,1) cost 3; sent (0,0) pending (0,0) completions (0,0); (2,1) cost 3; ");
   ShardTracker stuck = ShardTracker::make(2, std::uint64_t(1) << 62).value();
   const ReqParams widest = stuck.arrive(ServerId(0), {UINT32_MAX, 1}).value();
   const bool refuses_next = stuck.arrive(ServerId(1), {1, 0}).code() == Code::TrackFull;

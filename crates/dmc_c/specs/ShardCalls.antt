@@ -33,6 +33,20 @@ pub record HasArrived (s : ServerId) (came : Params) (old new : Numbers) (params
   pub after : new ≡ after_arrival s came old
   pub represents : (calls : List ShardCall) → RepresentsCalls old calls → (params ≡ demanded s came calls) × RepresentsCalls new (calls ++ Arrive s came ∷ [])
 
+-- what an arrival would be stamped with; the list stays
+pub record IsNext (s : ServerId) (came : Params) (shards : Numbers) (params : Params) : Type 0 where
+  pub within : s.0 < length shards.shards
+  pub not_full : IsFullAt shards s came → ⊥
+  pub carries : params ≡ next_params shards s came
+  pub demanded : (calls : List ShardCall) → RepresentsCalls shards calls → params ≡ demanded s came calls
+
+abbrev pub Nexts : ServerId → Result Params Fault → Numbers → Numbers → Result Params Fault → Type 0
+Nexts s (Err fault) old new answer = (answer ≡ Err fault) × (new ≡ old)
+Nexts s (Ok came) old new (Ok params) = IsNext s came old params × (new ≡ old)
+Nexts s (Ok came) old new (Err (faults.Track tracks.NoServer)) = (length old.shards ≤ s.0) × (new ≡ old)
+Nexts s (Ok came) old new (Err (faults.Track tracks.TrackFull)) = IsFullAt old s came × (new ≡ old)
+Nexts s (Ok came) old new (Err fault) = ⊥
+
 -- Numbers that are no stamp change nothing. Else it is the one call of the shard tracker.
 abbrev pub Arrives : ServerId → Result Params Fault → Numbers → Numbers → Result Params Fault → Type 0
 Arrives s (Err fault) old new answer = (answer ≡ Err fault) × (new ≡ old)
@@ -69,6 +83,9 @@ SkipsShard s old new (Err fault) = ⊥
 -- at a shard tracker that C holds
 abbrev pub ArrivesHeld : ServerId → Result Params Fault → Option Kept → Option Kept → Result Params Fault → Type 0
 ArrivesHeld s params = AtHandle (AtShards (Arrives s params))
+
+abbrev pub NextsHeld : ServerId → Result Params Fault → Option Kept → Option Kept → Result Params Fault → Type 0
+NextsHeld s params = AtHandle (AtShards (Nexts s params))
 
 abbrev pub GivesBackHeld : ServerId → Result Params Fault → Option Kept → Option Kept → Result ⊤ Fault → Type 0
 GivesBackHeld s params = AtHandle (AtShards (GivesBack s params))

@@ -7,7 +7,7 @@ ghost use Rattle.dmc_c.specs.Codes.{code_of};
 ghost use Rattle.dmc_c.specs.Reading as reading;
 ghost use Rattle.dmc_c.specs.Outputs.{value_or_old, stamp_written};
 ghost use Rattle.dmc_c.specs.Calls.{Makes, Opens};
-ghost use Rattle.dmc_c.specs.ShardCalls.{AtShards, Arrives, GivesBack, SkipsShard, shard_at, ArrivesHeld, GivesBackHeld, SkipsShardHeld, shard_held, new_shards, shards_opened};
+ghost use Rattle.dmc_c.specs.ShardCalls.{AtShards, Arrives, GivesBack, Nexts, SkipsShard, shard_at, ArrivesHeld, NextsHeld, GivesBackHeld, SkipsShardHeld, shard_held, new_shards, shards_opened};
 
 use crate::fault::{Fault, code_of};
 use crate::handle::{Handle, check_vacant, fill, put, take};
@@ -34,6 +34,21 @@ impl Kept {
         };
         let params = params?;
         Ok(shards.arrive(shard, params)?)
+    }
+
+    /// The stamp that an arrival would get, if the numbers are a stamp; nothing changes.
+    pub fn next_stamp(
+        &mut self,
+        shard: ServerId,
+        params: Result<ReqParams, Fault>,
+    ) -> Result<ReqParams, Fault>
+        ensures { AtShards (Nexts shard params) self.old self.new result }
+    {
+        let Kept::Shards(shards) = self else {
+            return Err(Fault::NoneHeld);
+        };
+        let params = params?;
+        Ok(shards.next(shard, params)?)
     }
 
     /// Gives back the counts of a stamp that a shard's queue refused, if the numbers are a stamp.
@@ -113,6 +128,23 @@ fn arrive(
         return Err(Fault::NoneHeld);
     };
     let answer = held.arrive(shard, params);
+    put(shards, held, alloc);
+    answer
+}
+
+/// The stamp that an arrival would get, by the shard tracker that is held.
+fn next_stamp(
+    shards: &mut Handle,
+    shard: ServerId,
+    params: Result<ReqParams, Fault>,
+    alloc: Global,
+) -> Result<ReqParams, Fault>
+    ensures { NextsHeld shard params shards.old.value shards.new.value result }
+{
+    let Some(mut held) = take(shards, alloc) else {
+        return Err(Fault::NoneHeld);
+    };
+    let answer = held.next_stamp(shard, params);
     put(shards, held, alloc);
     answer
 }
@@ -197,6 +229,26 @@ pub extern "C" fn dmc_shards_arrive(
     let answer = arrive(shards, ServerId(shard), params, alloc);
     write_stamp(&answer, stamp);
     code_of(&answer)
+}
+
+/// Makes of the stamp that a request brought the one that `dmc_shards_arrive` would make, and changes nothing else. If the shard's
+/// queue refuses the request, it is then as if it had not come: `DMC_NONE_HELD`, `DMC_BAD_PARAMS`, `DMC_BAD_COST`, `DMC_NO_SERVER`,
+/// `DMC_TRACK_FULL`.
+#[unsafe(no_mangle)]
+pub extern "C" fn dmc_shards_next(
+    shards: &mut Handle,
+    shard: u32,
+    stamp: &mut DmcStamp,
+    alloc: Global,
+) -> u32
+    ensures { (answer : Result Params Fault)
+        × NextsHeld (record { 0 = shard }) (reading.stamp_in stamp.old.delta stamp.old.rho stamp.old.cost) shards.old.value shards.new.value answer
+        × (result ≡ code_of answer) × (stamp.new ≡ stamp_written answer stamp.old) }
+{
+    let params = reading::stamped(stamp.delta, stamp.rho, stamp.cost);
+    let next = next_stamp(shards, ServerId(shard), params, alloc);
+    write_stamp(&next, stamp);
+    code_of(&next)
 }
 
 /// The shard's queue refused the request that this stamp was made for: its counts are pending there again. `DMC_NONE_HELD`,

@@ -12,7 +12,7 @@ use Rattle.dmc_shards.specs.declared.call.ShardCall.TheVariants.{Arrive, GiveBac
 use Rattle.dmc_shards.specs.declared.shard.ShardCounts.{ShardCounts}
 use Rattle.dmc_shards.specs.declared.status.ShardStatus.{ShardStatus}
 use Rattle.dmc_shards.specs.CallList.{demanded, IsWithin}
-use Rattle.dmc_shards.specs.ShardNumbers.{Numbers, no_numbers, new_numbers, numbers_at, next_params, after_arrival, after_give_back, after_skip, grown, RepresentsCalls}
+use Rattle.dmc_shards.specs.ShardNumbers.{Numbers, no_numbers, new_numbers, numbers_at, next_params, after_arrival, after_give_back, after_skip, grown, next_counts, RepresentsCalls}
 use Rattle.dmc_shards.specs.Kept.{rest_of, status_now, view_of, AreKept}
 use Rattle.dmc_shards.proofs.RepresentsLemmas.{same_numbers, next_params-represents, RepresentsCalls-arrival, RepresentsCalls-give_back, RepresentsCalls-skip}
 
@@ -76,13 +76,14 @@ module _ {most : ℕ} {came : Counts} {items : List ShardCounts} {now : Numbers}
     seen_at : numbers_at (view_of most came items) s ≡ status_now came x
     seen_at = get_or-map (status_now came) items s.0 x no_numbers inside ∙ ap (status_now came) (sym at)
 
-    pub arrival_seen : (params : Params) {k came' next sent' : Counts} → k ≡ counts_of params → came' ≡ plus came k → next ≡ rest_of came' x → sent' ≡ plus x.sent next
+    pub arrival_seen : (params : Params) {k came' next sent' : Counts} → k ≡ counts_of params → came' ≡ plus came k → next ≡ next_counts now s params → sent' ≡ plus x.sent next
         → view_of most came' (set items s.0 (record { sent = sent'; skipped = x.skipped })) ≡ after_arrival s params now
     arrival_seen params {came' = came'} {next = next} e f g h =
         let k = counts_of params in
         let after = plus came k in
         let came_is : came' ≡ after = f ∙ ap (plus came) e in
-        let next_is : next ≡ plus (rest_of came x) k = g ∙ ap (λ (c : Counts). rest_of c x) came_is ∙ rest-grown came x k part in
+        let next_is : next ≡ plus (rest_of came x) k =
+        g ∙ ap (λ (n : Numbers). plus (numbers_at n s).pending k) (sym view) ∙ ap (λ (n : ShardStatus). plus n.pending k) seen_at in
         rw (h, next_is, came_is) (
         ap (λ (ys : List ShardStatus). let n : Numbers = record { most = most; came = after; shards = ys } in n) (
         map-set (status_now after) items s.0 (record { sent = plus x.sent (plus (rest_of came x) k); skipped = x.skipped })
@@ -124,11 +125,16 @@ module _ {most : ℕ} {came : Counts} {items : List ShardCounts} {now : Numbers}
             rho = omega (arith, rho, ap (λ (c : Counts). c.rho) k_is, ap (λ (c : Counts). c.rho) is);
           }
 
+-- the next stamp is the one that the list demands
+pub next_is_demanded : {now : Numbers} (s : ServerId) (params : Params) {result : Params} → s.0 < length now.shards → result ≡ next_params now s params
+    → (calls : List ShardCall) → RepresentsCalls now calls → result ≡ demanded s params calls
+next_is_demanded {now} s params within p calls represents = p ∙ next_params-represents now calls s params within represents
+
 -- the list after an arrival, after a give-back, and after a skip
 pub represents_after_arrival : {now new : Numbers} (s : ServerId) (params : Params) {result : Params} → s.0 < length now.shards → new ≡ after_arrival s params now → result ≡ next_params now s params
     → (calls : List ShardCall) → RepresentsCalls now calls → (result ≡ demanded s params calls) × RepresentsCalls new (calls ++ Arrive s params ∷ [])
 represents_after_arrival {now} s params within e p calls represents =
-    (p ∙ next_params-represents now calls s params within represents, rw e (RepresentsCalls-arrival now calls s params within represents))
+    (next_is_demanded s params within p calls represents, rw e (RepresentsCalls-arrival now calls s params within represents))
 
 pub represents_after_give_back : {now new : Numbers} (s : ServerId) (params : Params) → s.0 < length now.shards → IsWithin params (numbers_at now s).sent → new ≡ after_give_back s params now
     → (calls : List ShardCall) → RepresentsCalls now calls → RepresentsCalls new (calls ++ GiveBack s params ∷ [])

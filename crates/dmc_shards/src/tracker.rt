@@ -99,8 +99,42 @@ impl ShardTracker {
         ensures err { OnErr result (self.new ≡ self.old) }
         ensures kept { Keeps self.old self.new }
     {
+        let stamped = self.next(shard, params)?;
+        self.take_arrival(shard, params, stamped);
+        Ok(stamped)
+    }
+
+    /// The stamp that `arrive` would return; nothing changes. So a request can be given to the shard's queue first, and come in if that
+    /// accepts it: if it is refused, it leaves no trace, and its client may keep its stamp. Both calls are made while no other request
+    /// of the client comes in.
+    ///
+    /// Refused as `arrive` would be.
+    pub fn next(&self, shard: ServerId, params: ReqParams) -> Result<ReqParams, TrackFault>
+        ensures params { IfOk result (λ stamped. stamped ≡ next_params self.now shard params) }
+
+        // It is the stamp that each list demands that the tracker represents.
+        ensures demanded { IfOk result (λ stamped. (calls : List ShardCall) → RepresentsCalls self.now calls
+            → stamped ≡ demanded shard params calls) }
+
+        ensures no_server { IsErrOf result TrackFault.NoServer ↔ (length self.now.shards ≤ shard.0) }
+        ensures full { IsErrOf result TrackFault.TrackFull ↔ IsFullAt self.now shard params }
+        ensures within { OnOk result (shard.0 < length self.now.shards) }
+        ensures counted { OnOk result (self.now.came.delta + params.delta ≤ self.now.most) }
+    {
         self.test_arrival(shard, params)?;
-        Ok(self.take_arrival(shard, params))
+        Ok(self.next_stamp(shard, params))
+    }
+
+    /// What an arrival that passed the test is stamped with.
+    fn next_stamp(&self, shard: ServerId, params: ReqParams) -> ReqParams
+        requires within { shard.0 < length self.now.shards }
+        requires counted { self.now.came.delta + params.delta ≤ self.now.most }
+        requires carried { (next_counts self.now shard params).delta ≤ max_count }
+        ensures { result ≡ next_params self.now shard params }
+    {
+        let came = self.came.plus(Counts::of_stamp(params));
+        let next = self.shards[shard.0 as usize].pending(came);
+        next.stamp(params.cost())
     }
 
     /// Whether an arrival would be refused, and why.
@@ -123,25 +157,22 @@ impl ShardTracker {
         Ok(())
     }
 
-    /// An arrival that passed the test.
-    fn take_arrival(&mut self, shard: ServerId, params: ReqParams) -> ReqParams
+    /// An arrival that passed the test, with its stamp.
+    fn take_arrival(&mut self, shard: ServerId, params: ReqParams, stamped: ReqParams)
         requires within { shard.0 < length self.old.shards }
         requires counted { self.old.came.delta + params.delta ≤ self.old.most }
-        requires carried { (next_counts self.old shard params).delta ≤ max_count }
-        ensures params { result ≡ next_params self.old shard params }
+        requires stamped { stamped ≡ next_params self.old shard params }
         ensures after { self.new ≡ after_arrival shard params self.old }
         ensures kept { Keeps self.old self.new }
     {
         let came = self.came.plus(Counts::of_stamp(params));
         let index = shard.0 as usize;
         let counts = self.shards[index];
-        let next = counts.pending(came);
         self.came = came;
         self.shards[index] = ShardCounts {
-            sent: counts.sent.plus(next),
+            sent: counts.sent.plus(Counts::of_stamp(stamped)),
             ..counts
         };
-        next.stamp(params.cost())
     }
 
     /// The shard's queue refused a request that was stamped with these counts (it was full, or the request was over its limit): what

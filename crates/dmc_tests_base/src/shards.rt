@@ -28,6 +28,16 @@ fn arrive(
     Ok(stamped.map(|stamp| (stamp.delta(), stamp.rho(), stamp.cost().units())))
 }
 
+/// The stamp that it would get, or why it would be refused.
+fn next(
+    tracker: &ShardTracker,
+    shard: ServerId,
+    request: Request,
+) -> Result<Result<Request, TrackFault>, Fail> {
+    let stamped = tracker.next(shard, params(request)?);
+    Ok(stamped.map(|stamp| (stamp.delta(), stamp.rho(), stamp.cost().units())))
+}
+
 fn give_back(
     tracker: &mut ShardTracker,
     shard: ServerId,
@@ -78,6 +88,25 @@ fn two_shards(rt: HostRuntime) -> Result<(), Fail> {
     assert_same(&rt, &tracker.status(ZERO), &shown((2, 1), (4, 1)));
     assert_same(&rt, &tracker.status(ONE), &shown((6, 2), (0, 0)));
     assert_same(&rt, &came(&tracker), &(6, 2));
+    Ok(())
+}
+
+/// The next stamp is that of the arrival, and without an arrival nothing has come in.
+#[test]
+fn next_stamp(rt: HostRuntime) -> Result<(), Fail> {
+    let mut tracker = ShardTracker::new(rt.alloc(), 2, 6)?;
+    arrive(&mut tracker, ZERO, (2, 1, 1))??;
+    for _ in 0..2 {
+        assert_same(&rt, &next(&tracker, ONE, (3, 0, 4))?, &Ok((5, 1, 4)));
+        assert_same(&rt, &tracker.status(ONE), &shown((0, 0), (2, 1)));
+        assert_same(&rt, &came(&tracker), &(2, 1));
+    }
+    let second = arrive(&mut tracker, ONE, (3, 0, 4))?;
+    assert_same(&rt, &second, &Ok((5, 1, 4)));
+    let full = Err(TrackFault::TrackFull);
+    assert_same(&rt, &next(&tracker, ONE, (2, 0, 1))?, &full);
+    let unknown = Err(TrackFault::NoServer);
+    assert_same(&rt, &next(&tracker, ServerId(2), (0, 0, 1))?, &unknown);
     Ok(())
 }
 

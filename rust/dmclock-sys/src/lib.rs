@@ -242,6 +242,7 @@ extern "C" {
     pub fn dmc_shards_new(shards: *mut dmc_shards, count: u32, most: u64) -> u32;
     pub fn dmc_shards_free(shards: *mut dmc_shards);
     pub fn dmc_shards_arrive(shards: *mut dmc_shards, shard: u32, stamp: *mut dmc_stamp) -> u32;
+    pub fn dmc_shards_next(shards: *mut dmc_shards, shard: u32, stamp: *mut dmc_stamp) -> u32;
     pub fn dmc_shards_give_back(
         shards: *mut dmc_shards,
         shard: u32,

@@ -161,7 +161,7 @@ fn calls() {
         })
         .collect();
     assert_eq!(found, wanted);
-    assert_eq!(found.len(), 29);
+    assert_eq!(found.len(), 30);
 }
 
 #[test]

@@ -13,8 +13,9 @@ use std::fmt;
 /// the stamp what the client was served elsewhere.
 ///
 /// It may move to another thread. Threads that share it need a lock: hold it from
-/// [`arrive`](ShardTracker::arrive) until the request is in the shard's queue, so that a client's
-/// requests reach a shard in the order of their stamps.
+/// [`next`](ShardTracker::next), which makes the stamp for the shard's queue, until the request was
+/// refused there, or was accepted and has come in by [`arrive`](ShardTracker::arrive). So a client's
+/// requests reach a shard in the order of their stamps, and one that is refused leaves no trace.
 ///
 /// A client whose requests bring no stamps, since its [`Tracker`](crate::Tracker) is at this
 /// server, needs none: its tracker stamps for the shards, as its servers.
@@ -46,6 +47,17 @@ impl ShardTracker {
         // SAFETY: the pointers are references.
         ArriveError::check(unsafe {
             sys::dmc_shards_arrive(self.shards.get_mut(), shard.0, &mut stamp)
+        })?;
+        Ok(ReqParams::of(stamp))
+    }
+
+    /// The stamp that [`arrive`](ShardTracker::arrive) would return; nothing changes. If the shard's
+    /// queue refuses the request, it is then as if it had not come.
+    pub fn next(&mut self, shard: ServerId, params: ReqParams) -> Result<ReqParams, ArriveError> {
+        let mut stamp = params.stamp();
+        // SAFETY: the pointers are references.
+        ArriveError::check(unsafe {
+            sys::dmc_shards_next(self.shards.get_mut(), shard.0, &mut stamp)
         })?;
         Ok(ReqParams::of(stamp))
     }

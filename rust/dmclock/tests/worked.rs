@@ -396,6 +396,22 @@ fn two_shards() {
     assert_eq!(known(one), ([6, 2, 0, 0], 6, 2));
 }
 
+/// The next stamp is that of the arrival, and without an arrival nothing has come in.
+#[test]
+fn next_stamp() {
+    let mut shards = ShardTracker::new(2, 6).unwrap();
+    let params = |delta, rho| ReqParams::new(delta, rho).unwrap();
+    let (zero, one) = (ServerId(0), ServerId(1));
+    shards.arrive(zero, params(2, 1)).unwrap();
+    for _ in 0..2 {
+        assert_eq!(shards.next(one, params(3, 0)), Ok(params(5, 1)));
+        assert_eq!(shards.status(one).unwrap().completions, 2);
+    }
+    assert_eq!(shards.arrive(one, params(3, 0)), Ok(params(5, 1)));
+    let full = shards.next(one, params(2, 0));
+    assert_eq!(full, Err(ArriveError::TrackFull));
+}
+
 /// A shard that was not used while 2^32-1 came for the other, before it is skipped and after.
 #[test]
 fn skipped_shard() {

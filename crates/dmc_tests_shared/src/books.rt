@@ -1,11 +1,6 @@
 //! One request from its stamp to its response.
 ghost use Rattle.std.specs.Prelude.{◌≡◌};
 
-use crate::calls::{carried, must_enroll, pull, respond, stamp, status, submit};
-use crate::opening::{
-    LONG, ONE, Opened, SEVEN, ZERO, drop_opened, open, open_book, open_desks, open_tracker,
-    wait_config,
-};
 use dmc_book::book::QueueBook;
 use dmc_book::pass::WorkerPass;
 use dmc_book::status::Status;
@@ -16,6 +11,11 @@ use dmc_ledger::mint::{Blank, Mint};
 use dmc_ledger::setup::Setup;
 use dmc_tag::reply::{Reply, Tags};
 use dmc_tag::tag::Tag;
+use dmc_tests_setup::calls::{carried, must_enroll, pull, respond, stamp, status, submit};
+use dmc_tests_setup::opening::{
+    LONG, ONE, Opened, SEVEN, ZERO, drop_opened, open, open_book, open_desks, open_tracker,
+    wait_config,
+};
 use dmc_tick::tick::TickTag;
 use dmc_tlock::book::TrackerBook;
 use dmc_tlock::fault::TillFault;

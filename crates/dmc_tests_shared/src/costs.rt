@@ -1,16 +1,16 @@
 //! Requests of different costs at one book.
 ghost use Rattle.std.specs.Prelude.{◌≡◌};
 
-use crate::calls::{
-    must_enroll, pull, respond_with, stamp_of_cost, status, submit_stamped, take_unit,
-};
-use crate::opening::{Opened, ZERO, drop_opened, open};
 use crate::same::assert_same;
 use crate::settling::{Left, QueueLeft, settle_opened};
 use dmc_book::settled::Amounts;
 use dmc_ledger::mint::Blank;
 use dmc_ledger::setup::Setup;
 use dmc_ledger::unit::Unit;
+use dmc_tests_setup::calls::{
+    must_enroll, pull, respond_with, stamp_of_cost, status, submit_stamped, take_unit,
+};
+use dmc_tests_setup::opening::{Opened, ZERO, drop_opened, open};
 use dmc_types::cost::Cost;
 use dmc_types::ids::Token;
 use std::alloc::Global;

@@ -3,10 +3,7 @@
 ghost use Rattle.std.specs.Prelude.{◌≡◌, IfErr, IfOk};
 ghost use Rattle.dmc_ledger.specs.Bundles.{Covers, HoldsGrant, phase_holdings, stamp_holdings};
 
-use crate::calls::{enroll, pull, stamp, status, take_unit};
-use crate::opening::{Book, ONE, Opened, ZERO, drop_opened, open_desks, open_seven};
 use crate::same::assert_same;
-use crate::tracker_setup::open_tracker_of;
 use dmc_book::fault::{NewFault, RunFault, SubmitCause, SubmitFault};
 use dmc_book::pass::WorkerPass;
 use dmc_book::status::Status;
@@ -16,6 +13,9 @@ use dmc_ledger::setup::Setup;
 use dmc_ledger::stamp::Stamp;
 use dmc_ledger::unit::Unit;
 use dmc_tag::reply::Reply;
+use dmc_tests_setup::calls::{enroll, pull, stamp, status, take_unit};
+use dmc_tests_setup::opening::{Book, ONE, Opened, ZERO, drop_opened, open_desks, open_seven};
+use dmc_tests_setup::tracker_setup::open_tracker_of;
 use dmc_tick::tick::TickTag;
 use dmc_tlock::book::TrackerBook;
 use dmc_tlock::fault::EntryFault;

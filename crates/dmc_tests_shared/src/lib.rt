@@ -1,21 +1,15 @@
-//! Tests of the books of queues and trackers, of their locks, and of what a cluster's threads leave. They are in a crate above
+//! Tests of the books of queues and trackers, of a tracker's lock, and of what a cluster's threads leave. They are in a crate above
 //! these, so that these are proved once.
 #![tactic(auto)]
 
 #[cfg(test)]
 mod books;
 #[cfg(test)]
-mod calls;
-#[cfg(test)]
 mod clusters;
 #[cfg(test)]
 mod costs;
 #[cfg(test)]
 mod growths;
-#[cfg(test)]
-mod opening;
-#[cfg(test)]
-mod queue_locks;
 #[cfg(test)]
 mod refusals;
 #[cfg(test)]
@@ -29,13 +23,9 @@ mod standbys;
 #[cfg(test)]
 mod tracker_books;
 #[cfg(test)]
-mod tracker_calls;
-#[cfg(test)]
 mod tracker_refusals;
 #[cfg(test)]
 mod tracker_segments;
-#[cfg(test)]
-mod tracker_setup;
 #[cfg(test)]
 mod tracker_skips;
 #[cfg(test)]

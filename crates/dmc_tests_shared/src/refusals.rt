@@ -3,11 +3,6 @@ ghost use Rattle.std.specs.List.{AllByRecursion};
 ghost use Rattle.dmc_ledger.specs.Bundles.{client_side};
 ghost use Rattle.dmc_book.specs.Opening.{IsNewDesk};
 
-use crate::calls::{close, enroll, must_enroll, pull, status, submit, try_submit};
-use crate::opening::{
-    Book, LONG, ONE, Opened, SEVEN, ZERO, drop_book, drop_opened, only, open, open_book,
-    open_client_desks, open_other, open_queue, wait_config,
-};
 use crate::same::assert_same;
 use dmc_book::fault::{NewFault, RunFault, SubmitCause};
 use dmc_book::pass::WorkerPass;
@@ -16,6 +11,11 @@ use dmc_ledger::desk::{ClientDesk, open_pair};
 use dmc_ledger::mint::{Blank, Mint};
 use dmc_ledger::setup::Setup;
 use dmc_tag::reply::Reply;
+use dmc_tests_setup::calls::{close, enroll, must_enroll, pull, status, submit, try_submit};
+use dmc_tests_setup::opening::{
+    Book, LONG, ONE, Opened, SEVEN, ZERO, drop_book, drop_opened, only, open, open_book,
+    open_client_desks, open_other, open_queue, wait_config,
+};
 use dmc_tlock::book::TrackerBook;
 use dmc_types::ids::{ClientId, ServerId, WorkerId};
 use std::alloc::Global;

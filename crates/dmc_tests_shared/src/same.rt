@@ -3,6 +3,6 @@ use std::fmt::Debug;
 use std::process::Abort;
 
 /// Both values are the same.
-pub(crate) fn assert_same<X: PartialEq + Debug>(rt: &impl Abort, left: &X, right: &X) {
+pub fn assert_same<X: PartialEq + Debug>(rt: &impl Abort, left: &X, right: &X) {
     assert_eq!(rt; left, right);
 }

@@ -2,13 +2,13 @@
 ghost use Rattle.std.specs.Prelude.{◌≡◌};
 
 use crate::books::play;
-use crate::calls::{must_enroll, pull, status};
-use crate::opening::{Book, Opened, drop_book, drop_opened, open, open_queue};
 use dmc_book::fault::RunFault;
 use dmc_book::pass::WorkerPass;
 use dmc_ledger::mint::Blank;
 use dmc_ledger::setup::Setup;
 use dmc_queue_history::segment::Segment;
+use dmc_tests_setup::calls::{must_enroll, pull, status};
+use dmc_tests_setup::opening::{Book, Opened, drop_book, drop_opened, open, open_queue};
 use dmc_tick::tick::TickTag;
 use std::alloc::Global;
 use std::marker::Brand;

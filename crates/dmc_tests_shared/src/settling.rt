@@ -2,7 +2,6 @@ ghost use Rattle.std.specs.Prelude.{◌≡◌, IsTrue};
 ghost use Rattle.dmc_ledger.specs.Bundles.{AreOnlyTills, IsOnlyTill, IsPair, client_side, phase_accounts, phase_holdings, server_side};
 
 use crate::books::play;
-use crate::opening::{Book, Opened, drop_book, drop_opened, only, open, open_other, open_queue};
 use dmc_book::pass::WorkerPass;
 use dmc_book::seat::Seat;
 use dmc_book::settled::{Amounts, Settled};
@@ -12,6 +11,9 @@ use dmc_ledger::desk::{ClientDesk, ServerDesk, close_pair};
 use dmc_ledger::mint::Blank;
 use dmc_ledger::setup::Setup;
 use dmc_ledger::till::Till;
+use dmc_tests_setup::opening::{
+    Book, Opened, drop_book, drop_opened, only, open, open_other, open_queue,
+};
 use dmc_tick::tick::TickTag;
 use dmc_tlock::book::TrackerBook;
 use dmc_tlock::pass::ClientPass;

@@ -2,8 +2,6 @@
 ghost use Rattle.std.specs.Prelude.{◌≡◌};
 
 use crate::books::play;
-use crate::calls::{run, submit};
-use crate::opening::{LONG, ONE, Opened, ZERO, drop_opened, open, wait_config};
 use crate::same::assert_same;
 use crate::segments::rotate;
 use dmc_check::check::Verdict;
@@ -19,6 +17,8 @@ use dmc_queue_history::segment::Segment;
 use dmc_tag::event::Event;
 use dmc_tag::reply::Reply;
 use dmc_tag::scheduler::Scheduler;
+use dmc_tests_setup::calls::{run, submit};
+use dmc_tests_setup::opening::{LONG, ONE, Opened, ZERO, drop_opened, open, wait_config};
 use dmc_text::cause::LineCause;
 use dmc_text::script::ScriptFault;
 use dmc_text::watched::Watched;

@@ -1,15 +1,15 @@
 //! Tests of a tracker's book, in one hand and behind its lock.
 ghost use Rattle.std.specs.Prelude.{◌≡◌};
 
-use crate::opening::ZERO;
 use crate::same::assert_same;
-use crate::tracker_calls::{AtLock, TrackerCalls};
-use crate::tracker_setup::{Opened, TIMES, grants_of, open_book};
 use crate::tracker_tests::{Left, TrackerTest, see_both};
 use dmc_ledger::bundle::{PhaseTills, StampTills};
 use dmc_ledger::desk::ClientDesk;
 use dmc_ledger::mint::Blank;
 use dmc_ledger::setup::Setup;
+use dmc_tests_setup::opening::ZERO;
+use dmc_tests_setup::tracker_calls::{AtLock, TrackerCalls};
+use dmc_tests_setup::tracker_setup::{Opened, TIMES, grants_of, open_book};
 use dmc_tlock::fault::EntryFault;
 use dmc_tlock::lock::TrackerLock;
 use dmc_tlock::pass::ClientPass;

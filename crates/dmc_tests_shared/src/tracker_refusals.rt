@@ -3,14 +3,14 @@ ghost use Rattle.std.specs.Prelude.{◌≡◌, map};
 ghost use Rattle.dmc_ledger.specs.Bundles.{server_side};
 ghost use Rattle.dmc_tlock.specs.Opening.{AreNew};
 
-use crate::opening::ZERO;
 use crate::same::assert_same;
-use crate::tracker_calls::{AtLock, TrackerCalls, unit_of, without_unit};
-use crate::tracker_setup::{Opened, open_book, open_desks};
 use dmc_ledger::bundle::{PhaseTills, StampTills};
 use dmc_ledger::desk::ServerDesk;
 use dmc_ledger::mint::{Blank, Mint};
 use dmc_ledger::setup::Setup;
+use dmc_tests_setup::opening::ZERO;
+use dmc_tests_setup::tracker_calls::{AtLock, TrackerCalls, unit_of, without_unit};
+use dmc_tests_setup::tracker_setup::{Opened, open_book, open_desks};
 use dmc_tlock::book::TrackerBook;
 use dmc_tlock::fault::{EntryFault, TillFault};
 use dmc_tlock::lock::TrackerLock;

@@ -1,13 +1,13 @@
 //! Trackers that release their lists in segments, in one hand and behind a lock.
 ghost use Rattle.std.specs.Prelude.{◌≡◌};
 
-use crate::opening::ZERO;
 use crate::same::assert_same;
-use crate::tracker_calls::TrackerCalls;
 use crate::tracker_tests::{Left, TrackerTest, open_small, see_both};
 use dmc_ledger::bundle::{PhaseTills, StampTills};
 use dmc_ledger::mint::{Blank, Mint};
 use dmc_ledger::setup::Setup;
+use dmc_tests_setup::opening::ZERO;
+use dmc_tests_setup::tracker_calls::TrackerCalls;
 use dmc_tlock::fault::EntryFault;
 use dmc_tlock::segment::TrackerSegment;
 use dmc_tlock::status::TrackStatus;

@@ -1,13 +1,13 @@
 //! A server that is skipped, in a tracker's book and behind its lock.
 ghost use Rattle.std.specs.Prelude.{◌≡◌};
 
-use crate::opening::ZERO;
 use crate::same::assert_same;
-use crate::tracker_calls::TrackerCalls;
 use crate::tracker_tests::{Left, TrackerTest, see_both};
 use dmc_ledger::bundle::{PhaseTills, StampTills};
 use dmc_ledger::mint::Blank;
 use dmc_ledger::setup::Setup;
+use dmc_tests_setup::opening::ZERO;
+use dmc_tests_setup::tracker_calls::TrackerCalls;
 use dmc_tlock::fault::EntryFault;
 use dmc_tlock::status::TrackStatus;
 use dmc_types::config::Counting;

@@ -1,12 +1,12 @@
 //! Tests that a tracker's book has to pass twice: in hand, and through its lock.
 ghost use Rattle.dmc_tlock.specs.Consistent.{IsBalanced};
 
-use crate::opening::ZERO;
-use crate::tracker_calls::{AtLock, TrackerCalls};
-use crate::tracker_setup::{Opened, open_book};
 use dmc_ledger::bundle::{PhaseTills, StampTills};
 use dmc_ledger::mint::Mint;
 use dmc_ledger::setup::Setup;
+use dmc_tests_setup::opening::ZERO;
+use dmc_tests_setup::tracker_calls::{AtLock, TrackerCalls};
+use dmc_tests_setup::tracker_setup::{Opened, open_book};
 use dmc_tlock::book::TrackerBook;
 use dmc_tlock::laws::book_is_consistent;
 use dmc_tlock::lock::TrackerLock;

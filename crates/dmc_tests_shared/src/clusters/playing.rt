@@ -1,11 +1,11 @@
 //! The events of two clients and two servers.
 use super::setup::Cluster;
-use crate::calls::{pull, respond, stamp, stamp_and_submit};
-use crate::opening::Book;
 use dmc_book::pass::WorkerPass;
 use dmc_ledger::bundle::StampTills;
 use dmc_ledger::setup::Setup;
 use dmc_tag::reply::Reply;
+use dmc_tests_setup::calls::{pull, respond, stamp, stamp_and_submit};
+use dmc_tests_setup::opening::Book;
 use dmc_tlock::book::TrackerBook;
 use dmc_tlock::pass::ClientPass;
 use dmc_types::ids::{ServerId, Token};

@@ -5,8 +5,6 @@ ghost use Rattle.dmc_ledger.specs.Bundles.{client_side, server_side};
 ghost use Rattle.dmc_tlock.specs.Opening.{AreNew};
 ghost use Rattle.dmc_book.specs.Opening.{IsNewDesk};
 
-use crate::calls::run;
-use crate::opening::{Book, SEVEN, both, drop_book, open_book, open_tracker, push};
 use dmc_book::fault::RunFault;
 use dmc_book::pass::WorkerPass;
 use dmc_ledger::desk::{ClientDesk, ServerDesk, open_pair};
@@ -15,6 +13,8 @@ use dmc_ledger::setup::Setup;
 use dmc_scene::client::SceneClient;
 use dmc_scene::scene::{Scene, read_scene};
 use dmc_settle::settle::Passes;
+use dmc_tests_setup::calls::run;
+use dmc_tests_setup::opening::{Book, SEVEN, both, drop_book, open_book, open_tracker, push};
 use dmc_tlock::book::TrackerBook;
 use dmc_types::command::Command;
 use dmc_types::ids::{ClientId, ServerId};

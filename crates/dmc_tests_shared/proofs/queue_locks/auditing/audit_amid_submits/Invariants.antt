@@ -1,4 +1,0 @@
-use Rattle.dmc_tests_shared.proofs.queue_locks.auditing.audit_amid_submits.Given as goal
-
-abbrev pub ghosts-audited : goal.ghosts-audited
-ghosts-audited g a = record { name = a.blank.name }

@@ -1,4 +1,0 @@
-use Rattle.dmc_tests_shared.proofs.queue_locks.circle.one_circle.Given as goal
-
-abbrev pub ghosts-circle : goal.ghosts-circle
-ghosts-circle g a = record { name = a.blank.name }

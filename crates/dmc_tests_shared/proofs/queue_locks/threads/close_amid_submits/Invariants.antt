@@ -1,4 +1,0 @@
-use Rattle.dmc_tests_shared.proofs.queue_locks.threads.close_amid_submits.Given as goal
-
-abbrev pub ghosts-closed_at_once : goal.ghosts-closed_at_once
-ghosts-closed_at_once g a = record { name = a.blank.name }

@@ -1,4 +1,0 @@
-use Rattle.dmc_tests_shared.proofs.queue_locks.waiting.all_are_woken_after_a_cancel.Given as goal
-
-abbrev pub ghosts-woken : goal.ghosts-woken
-ghosts-woken g a = record { name = a.blank.name }

@@ -140,8 +140,8 @@ module _ {T : Type 0} (made : ℤ → ℕ → Option T) where
     pub segment_by : {X E : Type 0} (result : Result X E) (ops : Tagging T) (segment : SegmentState T) (server : ServerId) → replays ops segment.config segment.history → server.0 ≡ segment.server
         → IsHeaderAgain server segment.first → OnOk result (AllByRecursion (IsEventAgain made text) (events_in segment)) → OnOk result (IsSegmentAgain made text segment)
     segment_by (Ok x) ops segment server h same header events =
-        let told = all_drop (λ e. IsWritable e.reply) segment.first segment.history (tellable_from ops (opening ops segment.config) segment.history h) in
-        segment_again segment server same header (all_met (λ e. IsWritable e.reply) Again (events_in segment) events told)
+        let reported = all_drop (λ e. IsWritable e.reply) segment.first segment.history (tellable_from ops (opening ops segment.config) segment.history h) in
+        segment_again segment server same header (all_met (λ e. IsWritable e.reply) Again (events_in segment) events reported)
     segment_by (Err e) ops segment server h same header events = tt
 
     -- ---- events, one after the other

@@ -55,9 +55,9 @@ commands_of events = map (λ e. e.command) events
 
 module _ {T : Type 0} (ops : Tagging T) where
   -- what was recorded of s from the state u on replays, and gives the plain state of s in the run
-  pub record Recorded (s : ServerId) (u : State T) (told : List (Event T)) (next : Run T) : Type 0 where
-    pub replays_recorded : replays_from ops u told
-    pub state_is : slice_get next.servers s.0 ≡ Some (state_after ops u (commands_of told))
+  pub record Recorded (s : ServerId) (u : State T) (reported : List (Event T)) (next : Run T) : Type 0 where
+    pub replays_recorded : replays_from ops u reported
+    pub state_is : slice_get next.servers s.0 ≡ Some (state_after ops u (commands_of reported))
 
   pub replays_both : (u : State T) (xs ys : List (Event T)) → replays_from ops u xs → replays_from ops (state_after ops u (commands_of xs)) ys → replays_from ops u (xs ++ ys)
   replays_both u [] ys a b = b
@@ -68,8 +68,8 @@ module _ {T : Type 0} (ops : Tagging T) where
   state_both u (x ∷ xs) ys = state_both ((step ops u x.command).0) xs ys
 
   module _ (s : ServerId) (u : State T) (run : Run T) (here : slice_get run.servers s.0 ≡ Some u) where
-    quiet : (told : List (Event T)) (next : Run T) → told ≡ [] → next.servers ≡ run.servers → Recorded s u told next
-    quiet told next none same = rw none (record { replays_recorded = tt; state_is = ap (λ us. slice_get us s.0) same ∙ here })
+    quiet : (reported : List (Event T)) (next : Run T) → reported ≡ [] → next.servers ≡ run.servers → Recorded s u reported next
+    quiet reported next none same = rw none (record { replays_recorded = tt; state_is = ap (λ us. slice_get us s.0) same ∙ here })
 
     -- a command to the queue of a server
     served : (server : ServerId) (command : Command) (old : State T) (handed_is : Option Command) (next : Run T) (reply : Reply T) → slice_get run.servers server.0 ≡ Some old → handed_is ≡ Some command
@@ -102,9 +102,9 @@ module _ {T : Type 0} (ops : Tagging T) where
   accepted s u run here (Cancel server id token) x g = rw g.is (served s u run here server (commands.Cancel id token run.counting) g.state (Some (commands.Cancel id token run.counting)) _ _ g.state_is refl refl refl)
   accepted s u run here (Clean server at) x g = rw g.is (served s u run here server (commands.Clean at) g.state (Some (commands.Clean at)) _ _ g.state_is refl refl refl)
 
-  told : (s : ServerId) (u : State T) (run : Run T) (e : CoreEvent) → slice_get run.servers s.0 ≡ Some u
+  reported : (s : ServerId) (u : State T) (run : Run T) (e : CoreEvent) → slice_get run.servers s.0 ≡ Some u
       → Recorded s u (recorded_events (is_server s (server_named e)) (queue_command run e) ((cluster_step ops run e).1)) ((cluster_step ops run e).0)
-  told s u run e here = step_goes ops run e (λ p. Recorded s u (recorded_events (is_server s (server_named e)) (queue_command run e) p.1) p.0)
+  reported s u run e here = step_goes ops run e (λ p. Recorded s u (recorded_events (is_server s (server_named e)) (queue_command run e) p.1) p.0)
       (λ fault. quiet s u run here _ run (nothing_refused (is_server s (server_named e)) (queue_command run e) fault) refl)
       (λ x is. accepted s u run here e x (gives ops run e x is))
 
@@ -113,7 +113,7 @@ module _ {T : Type 0} (ops : Tagging T) where
   all_recorded s u run [] here = record { replays_recorded = tt; state_is = here }
   all_recorded s u run (e ∷ es) here =
       let now = recorded_events (is_server s (server_named e)) (queue_command run e) ((cluster_step ops run e).1) in
-      let one = told s u run e here in
+      let one = reported s u run e here in
       let rest = all_recorded s (state_after ops u (commands_of now)) ((cluster_step ops run e).0) es one.state_is in
       record {
         replays_recorded = replays_both u now _ one.replays_recorded rest.replays_recorded;

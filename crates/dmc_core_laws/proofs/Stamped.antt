@@ -45,20 +45,20 @@ module _ {T : Type 0} (ops : Tagging T) (counting : Counting) (id : ClientId) (s
     pub each : (c : Client) → client_in run id ≡ Some c → IsFollowed counting s arrived c
 
   abbrev more : List Params → List (Event T) → List Params
-  more arrived told = arrived ++ params_of (arrivals id told)
+  more arrived reported = arrived ++ params_of (arrivals id reported)
 
-  nothing_more : (arrived : List Params) (told : List (Event T)) → arrivals id told ≡ [] → more arrived told ≡ arrived
-  nothing_more arrived told none = ap (λ qs. arrived ++ params_of qs) none ∙ append-nil arrived
+  nothing_more : (arrived : List Params) (reported : List (Event T)) → arrivals id reported ≡ [] → more arrived reported ≡ arrived
+  nothing_more arrived reported none = ap (λ qs. arrived ++ params_of qs) none ∙ append-nil arrived
 
   -- an event of a client that there is
-  changed : (arrived : List Params) (run next : Run T) (told : List (Event T)) (client : ClientId) (f : Client → Client) → AreFollowed arrived run
+  changed : (arrived : List Params) (run next : Run T) (reported : List (Event T)) (client : ClientId) (f : Client → Client) → AreFollowed arrived run
       → next.counting ≡ run.counting → next.clients ≡ change_first (λ c. is_client client c.id) f run.clients
       → ((x : Client) → is_client client x.id ≡ true → is_client client (f x).id ≡ true)
-      → (client ≡ id → (c : Client) → client_in run id ≡ Some c → IsFollowed counting s arrived c → IsFollowed counting s (more arrived told) (f c))
-      → (is_client id client ≡ false → arrivals id told ≡ []) → AreFollowed (more arrived told) next
-  changed arrived run next told client f is form clients_are keeps own others = by (is_client id client) refl
+      → (client ≡ id → (c : Client) → client_in run id ≡ Some c → IsFollowed counting s arrived c → IsFollowed counting s (more arrived reported) (f c))
+      → (is_client id client ≡ false → arrivals id reported ≡ []) → AreFollowed (more arrived reported) next
+  changed arrived run next reported client f is form clients_are keeps own others = by (is_client id client) refl
     where
-      by : (b : Bool) → is_client id client ≡ b → AreFollowed (more arrived told) next
+      by : (b : Bool) → is_client id client ≡ b → AreFollowed (more arrived reported) next
       by true e =
           let same : client ≡ id = same_client id client e in
           record {
@@ -67,7 +67,7 @@ module _ {T : Type 0} (ops : Tagging T) (counting : Counting) (id : ClientId) (s
                 let was = found_changed (λ (x : Client). is_client client x.id) (λ (x : Client). is_client id x.id) f run.clients c
                 (λ x h. subst (λ (k : ClientId). is_client k x.id ≡ true) same h) (λ x h. subst (λ (k : ClientId). is_client k (f x).id ≡ true) same (keeps x h)) (λ x h. subst (λ (k : ClientId). is_client k x.id ≡ true) (sym same) h)
                 (subst (λ cs. find (λ (x : Client). is_client id x.id) cs ≡ Some c) clients_are found) in
-                subst (IsFollowed counting s (more arrived told)) (sym was.2) (own same was.0 was.1 (is.each was.0 was.1));
+                subst (IsFollowed counting s (more arrived reported)) (sym was.2) (own same was.0 was.1 (is.each was.0 was.1));
           }
       by false e =
           let other : (x : Client) → is_client client x.id ≡ true → is_client id x.id ≡ false = λ x h. subst (λ (n : ℕ). (n == id.0) ≡ false) (sym (eqb-true x.id.0 client.0 h)) e in
@@ -76,14 +76,14 @@ module _ {T : Type 0} (ops : Tagging T) (counting : Counting) (id : ClientId) (s
             each = λ c found.
                 let was : client_in run id ≡ Some c = sym (found_same (λ (x : Client). is_client client x.id) (λ (x : Client). is_client id x.id) f run.clients other (λ x h. other (f x) (keeps x h)))
                 ∙ subst (λ cs. find (λ (x : Client). is_client id x.id) cs ≡ Some c) clients_are found in
-                subst (λ ps. IsFollowed counting s ps c) (sym (nothing_more arrived told (others e))) (is.each c was);
+                subst (λ ps. IsFollowed counting s ps c) (sym (nothing_more arrived reported (others e))) (is.each c was);
           }
 
   -- an event that leaves the clients
-  untouched : (arrived : List Params) (run next : Run T) (told : List (Event T)) → AreFollowed arrived run → next.counting ≡ run.counting → next.clients ≡ run.clients → arrivals id told ≡ [] → AreFollowed (more arrived told) next
-  untouched arrived run next told is form same none = record {
+  untouched : (arrived : List Params) (run next : Run T) (reported : List (Event T)) → AreFollowed arrived run → next.counting ≡ run.counting → next.clients ≡ run.clients → arrivals id reported ≡ [] → AreFollowed (more arrived reported) next
+  untouched arrived run next reported is form same none = record {
     form = form ∙ is.form;
-    each = λ c found. subst (λ ps. IsFollowed counting s ps c) (sym (nothing_more arrived told none)) (is.each c (subst (λ cs. find (λ (x : Client). is_client id x.id) cs ≡ Some c) same found));
+    each = λ c found. subst (λ ps. IsFollowed counting s ps c) (sym (nothing_more arrived reported none)) (is.each c (subst (λ cs. find (λ (x : Client). is_client id x.id) cs ≡ Some c) same found));
   }
 
   -- what is recorded of another command than an add is no arrival
@@ -99,11 +99,11 @@ module _ {T : Type 0} (ops : Tagging T) (counting : Counting) (id : ClientId) (s
   no_other client m at (replies.Tagged tags) e = rw e refl
   no_other client m at reply e = refl
 
-  pulled_clients : (q : ServerId) (reply : Reply T) (arrived : List Params) (run next : Run T) (servers : List (State T)) (told : List (Event T)) → AreFollowed arrived run → next ≡ after_pull q reply (record run { servers = servers }) → arrivals id told ≡ [] → AreFollowed (more arrived told) next
-  pulled_clients q (replies.Granted client token phase beyond cost) arrived run next servers told is next_is none =
-      changed arrived run next told client (after_grant q phase cost) is (ap (λ (r : Run T). r.counting) next_is) (ap (λ (r : Run T). r.clients) next_is) (λ x h. h)
-      (λ same c found follows. subst (λ ps. IsFollowed counting s ps (after_grant q phase cost c)) (sym (nothing_more arrived told none)) (grant_follows counting s arrived c follows q phase cost)) (λ e. none)
-  pulled_clients q reply arrived run next servers told is next_is none = untouched arrived run next told is (ap (λ (r : Run T). r.counting) next_is) (ap (λ (r : Run T). r.clients) next_is) none
+  pulled_clients : (q : ServerId) (reply : Reply T) (arrived : List Params) (run next : Run T) (servers : List (State T)) (reported : List (Event T)) → AreFollowed arrived run → next ≡ after_pull q reply (record run { servers = servers }) → arrivals id reported ≡ [] → AreFollowed (more arrived reported) next
+  pulled_clients q (replies.Granted client token phase beyond cost) arrived run next servers reported is next_is none =
+      changed arrived run next reported client (after_grant q phase cost) is (ap (λ (r : Run T). r.counting) next_is) (ap (λ (r : Run T). r.clients) next_is) (λ x h. h)
+      (λ same c found follows. subst (λ ps. IsFollowed counting s ps (after_grant q phase cost c)) (sym (nothing_more arrived reported none)) (grant_follows counting s arrived c follows q phase cost)) (λ e. none)
+  pulled_clients q reply arrived run next servers reported is next_is none = untouched arrived run next reported is (ap (λ (r : Run T). r.counting) next_is) (ap (λ (r : Run T). r.clients) next_is) none
 
   -- the one that was found for an id that is the client's
   the_same : (run : Run T) (client : ClientId) (c d : Client) → client ≡ id → client_in run client ≡ Some c → client_in run id ≡ Some d → c ≡ d
@@ -115,23 +115,23 @@ module _ {T : Type 0} (ops : Tagging T) (counting : Counting) (id : ClientId) (s
   accepted : (arrived : List Params) (run : Run T) (e : CoreEvent) (x : Run T × CoreReply T) → AreFollowed arrived run → Gives ops run e x → AreFollowed (more arrived (told_by run e (Ok x.1))) x.0
   accepted arrived run (Stamp client q token cost) x is g =
       let m : Message = record { token = token; params = demanded run.counting q cost g.client.list } in
-      let told = told_by run (Stamp client q token cost) (Ok x.1) in
+      let reported = told_by run (Stamp client q token cost) (Ok x.1) in
       let none = ap (arrivals id) (nothing_handed (is_server s q) (Ok x.1)) in
-      changed arrived run x.0 told client (λ old. after_stamp q m g.client) is (ap (λ (y : Run T × CoreReply T). y.0.counting) g.is) (ap (λ (y : Run T × CoreReply T). y.0.clients) g.is)
+      changed arrived run x.0 reported client (λ old. after_stamp q m g.client) is (ap (λ (y : Run T × CoreReply T). y.0.counting) g.is) (ap (λ (y : Run T × CoreReply T). y.0.clients) g.is)
       (λ y h. found_passes (λ (z : Client). is_client client z.id) run.clients g.client g.found)
       (λ same c found follows.
       let one = the_same run client g.client c same g.found found in
       let due : m.params ≡ demanded counting q cost g.client.list = ap (λ k. demanded k q cost g.client.list) is.form in
-      subst (λ ps. IsFollowed counting s ps (after_stamp q m g.client)) (sym (nothing_more arrived told none)) (stamp_follows counting s arrived g.client (subst (IsFollowed counting s arrived) (sym one) follows) q m cost due))
+      subst (λ ps. IsFollowed counting s ps (after_stamp q m g.client)) (sym (nothing_more arrived reported none)) (stamp_follows counting s arrived g.client (subst (IsFollowed counting s arrived) (sym one) follows) q m cost due))
       (λ e. none)
   accepted arrived run (Respond client q phase cost) x is g =
-      let told = told_by run (Respond client q phase cost) (Ok x.1) in
+      let reported = told_by run (Respond client q phase cost) (Ok x.1) in
       let none = ap (arrivals id) (nothing_handed (is_server s q) (Ok x.1)) in
-      changed arrived run x.0 told client (λ old. after_response q phase cost g.client) is (ap (λ (y : Run T × CoreReply T). y.0.counting) g.is) (ap (λ (y : Run T × CoreReply T). y.0.clients) g.is)
+      changed arrived run x.0 reported client (λ old. after_response q phase cost g.client) is (ap (λ (y : Run T × CoreReply T). y.0.counting) g.is) (ap (λ (y : Run T × CoreReply T). y.0.clients) g.is)
       (λ y h. found_passes (λ (z : Client). is_client client z.id) run.clients g.client g.found)
       (λ same c found follows.
       let one = the_same run client g.client c same g.found found in
-      subst (λ ps. IsFollowed counting s ps (after_response q phase cost g.client)) (sym (nothing_more arrived told none)) (response_follows counting s arrived g.client (subst (IsFollowed counting s arrived) (sym one) follows) q phase cost))
+      subst (λ ps. IsFollowed counting s ps (after_response q phase cost g.client)) (sym (nothing_more arrived reported none)) (response_follows counting s arrived g.client (subst (IsFollowed counting s arrived) (sym one) follows) q phase cost))
       (λ e. none)
   accepted arrived run (Arrive client q at) x is g =
       let m = g.message in
@@ -140,7 +140,7 @@ module _ {T : Type 0} (ops : Tagging T) (counting : Counting) (id : ClientId) (s
       let handed_is : queue_command run (Arrive client q at) ≡ Some (commands.Add client m.token m.params at) = ap (option_map (λ n. commands.Add client n.token n.params at)) oldest_is in
       let told_is : told_by run (Arrive client q at) (Ok x.1) ≡ recorded_events (is_server s q) (Some (commands.Add client m.token m.params at)) (Ok (Served reply)) =
       ap (λ o. recorded_events (is_server s q) o (Ok x.1)) handed_is ∙ ap (λ (y : Run T × CoreReply T). recorded_events (is_server s q) (Some (commands.Add client m.token m.params at)) (Ok y.1)) g.is in
-      subst (λ told. AreFollowed (more arrived told) x.0) (sym told_is)
+      subst (λ reported. AreFollowed (more arrived reported) x.0) (sym told_is)
       (changed arrived run x.0 (recorded_events (is_server s q) (Some (commands.Add client m.token m.params at)) (Ok (Served reply))) client (λ old. client_after_arrival q reply g.client) is (ap (λ (y : Run T × CoreReply T). y.0.counting) g.is) (ap (λ (y : Run T × CoreReply T). y.0.clients) g.is)
       (λ y h. found_passes (λ (z : Client). is_client client z.id) run.clients g.client g.found)
       (λ same c found follows.

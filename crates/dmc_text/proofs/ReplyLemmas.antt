@@ -226,7 +226,7 @@ module _ {T : Type 0} (made : ℤ → ℕ → Option T) (text : T → List ℕ) 
       joined (Tagged t) (and_more 4 122 (given 4 (codes "tags" ∷ []) refl refl refl) tags) (rw (first.1, l.read, p.read) refl)
 
   pub back_granted : (c : ClientId) (k : Token) (phase : PhaseType) (beyond : Bool) (cost : ℕ) → IsPhase phase beyond → c.0 < 2 ^ 32 → k.0 < 2 ^ 32 → 0 < cost → cost < 2 ^ 32 → IsReadBack made text (Granted c k phase beyond cost)
-  back_granted c k phases.Reservation true cost told h j some small = absurd (cc)
-  back_granted c k phases.Reservation false cost told h j some small = back_reserved c k cost h j some small
-  back_granted c k phases.Priority true cost told h j some small = back_beyond c k cost h j some small
-  back_granted c k phases.Priority false cost told h j some small = back_shared c k cost h j some small
+  back_granted c k phases.Reservation true cost reported h j some small = absurd (cc)
+  back_granted c k phases.Reservation false cost reported h j some small = back_reserved c k cost h j some small
+  back_granted c k phases.Priority true cost reported h j some small = back_beyond c k cost h j some small
+  back_granted c k phases.Priority false cost reported h j some small = back_shared c k cost h j some small

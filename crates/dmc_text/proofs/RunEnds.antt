@@ -104,9 +104,9 @@ module _ {T S : Type 0} (ops : Tagging T) (text : T → List ℕ) (seen : S → 
     Told fault answers bytes = (fault_of bytes ≡ fault) × (out ops text bytes ≡ answers)
 
     module _ {input output r w : Option (List ℕ)} {last : S} {pending : List ℕ} where
-      told : {fault : Option (ℕ × LineCause)} (e : Ending takes refuses has_config fault first input output last r w pending) (more : List ℕ) → (IsAtEnd r → more ≡ [])
+      reported : {fault : Option (ℕ × LineCause)} (e : Ending takes refuses has_config fault first input output last r w pending) (more : List ℕ) → (IsAtEnd r → more ≡ [])
           → Told fault (e.sent ++ pending) (e.read ++ more)
-      told {fault} e more end =
+      reported {fault} e more end =
           let (others, split, is_fault) = e.ends more end in
           let left = fault_left last (suc (length e.lines)) others fault is_fault in
           let number : 1 + length e.lines ≡ suc (length e.lines) = omega arith in (
@@ -119,7 +119,7 @@ module _ {T S : Type 0} (ops : Tagging T) (text : T → List ℕ) (seen : S → 
           )
 
       writable_read : {fault : Option (ℕ × LineCause)} (e : Ending takes refuses has_config fault first input output last r w pending) → Told fault (e.sent ++ pending) e.read
-      writable_read {fault} e = of_read r e.read (Told fault (e.sent ++ pending)) (told e)
+      writable_read {fault} e = of_read r e.read (Told fault (e.sent ++ pending)) (reported e)
 
       -- what is pending is written
       all_sent : {fault : Option (ℕ × LineCause)} (w' : Option (List ℕ)) (e : Ending takes refuses has_config fault first input output last r w pending) (bytes : List ℕ)
@@ -150,7 +150,7 @@ module _ {T S : Type 0} (ops : Tagging T) (text : T → List ℕ) (seen : S → 
         (end, Consumes-whole input r e.read _ e.reads.0 end (e.reads.1, sent.0, sent.1))
     runs_as input output r w w' last walk (Ok x) false (end, e) all some = some_sent w' e some
     runs_as input output r w w' last walk (Err (ends.Line n cause)) true e all some =
-        ((e.read, e.reads, (writable_read e).0), of_text input r e.read e.reads.0 _ (λ more end. all_sent w' e (e.read ++ more) (told e more end) (all refl)))
+        ((e.read, e.reads, (writable_read e).0), of_text input r e.read e.reads.0 _ (λ more end. all_sent w' e (e.read ++ more) (reported e more end) (all refl)))
     runs_as input output r w w' last walk (Err (ends.Line n cause)) false e all some = some_sent w' e some
     runs_as input output r w w' last walk (Err ends.Read) b h all some =
         (h.done ++ h.rest, h.reads, subst (λ i. AppendsSome output w' (out ops text i)) (sym (whole_on h.done h.rest h.took.whole)) (halt_sent w' h (whole_lines h.rest) some))

@@ -97,7 +97,7 @@ module _ (b : BookState) (s : ServerId) (within : s.0 < length b.desks) (h : IsC
         rho = omega (arith, few.rho, d.books.rho.total, rho);
       }
 
--- the sums of what is told
+-- the sums of what is reported
 sums_read : (counting : Counting) (s : ServerId) (events : List TrackerEvent) (sent skipped pending : Counts) (status : TrackStatus)
     → status.counting ≡ counting → plus (plus sent skipped) pending ≡ due counting s events → status.sent ≡ pair_of sent
     → status.skipped ≡ pair_of skipped → status.pending ≡ pair_of pending → status.completions ≡ pair_of (completions events) → status.own ≡ own_costs counting s events

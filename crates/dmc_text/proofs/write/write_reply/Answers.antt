@@ -10,30 +10,30 @@ abbrev text : (g : Over) → g.row.T.Denot → List ℕ
 text g = tag_text g.T.TagText.numerator g.T.TagText.denominator
 
 pub returns-in-Registered-clause-again : goal.returns-in-Registered-clause-again
-returns-in-Registered-clause-again g c = rw c.in-Registered.is (λ told. back_registered g.T.TagText.made (text g))
+returns-in-Registered-clause-again g c = rw c.in-Registered.is (λ reported. back_registered g.T.TagText.made (text g))
 
 pub returns-in-Updated-clause-again : goal.returns-in-Updated-clause-again
-returns-in-Updated-clause-again g c = rw c.in-Updated.is (λ told. back_updated g.T.TagText.made (text g))
+returns-in-Updated-clause-again g c = rw c.in-Updated.is (λ reported. back_updated g.T.TagText.made (text g))
 
 pub returns-in-Granted-clause-again : goal.returns-in-Granted-clause-again
 returns-in-Granted-clause-again g c =
-    rw c.in-Granted.is (λ told. back_granted g.T.TagText.made (text g) c.in-Granted.client c.in-Granted.token c.in-Granted.phase c.in-Granted.beyond c.in-Granted.cost told c.write_grant.ensures.ids.0 c.write_grant.ensures.ids.1 c.write_grant.ensures.cost.0 c.write_grant.ensures.cost.1)
+    rw c.in-Granted.is (λ reported. back_granted g.T.TagText.made (text g) c.in-Granted.client c.in-Granted.token c.in-Granted.phase c.in-Granted.beyond c.in-Granted.cost reported c.write_grant.ensures.ids.0 c.write_grant.ensures.ids.1 c.write_grant.ensures.cost.0 c.write_grant.ensures.cost.1)
 
 pub returns-in-Later-clause-again : goal.returns-in-Later-clause-again
-returns-in-Later-clause-again g c = rw c.in-Later.is (λ told. back_later g.T.TagText.made (text g) c.in-Later.at (omega arith))
+returns-in-Later-clause-again g c = rw c.in-Later.is (λ reported. back_later g.T.TagText.made (text g) c.in-Later.at (omega arith))
 
 pub returns-in-Nothing-clause-again : goal.returns-in-Nothing-clause-again
-returns-in-Nothing-clause-again g c = rw c.in-Nothing.is (λ told. back_nothing g.T.TagText.made (text g))
+returns-in-Nothing-clause-again g c = rw c.in-Nothing.is (λ reported. back_nothing g.T.TagText.made (text g))
 
 pub returns-in-Removed-clause-again : goal.returns-in-Removed-clause-again
-returns-in-Removed-clause-again g c = rw c.in-Removed.is (λ told. back_removed g.T.TagText.made (text g) c.in-Removed.removed (omega arith))
+returns-in-Removed-clause-again g c = rw c.in-Removed.is (λ reported. back_removed g.T.TagText.made (text g) c.in-Removed.removed (omega arith))
 
 pub returns-in-Cleaned-clause-again : goal.returns-in-Cleaned-clause-again
 returns-in-Cleaned-clause-again g c =
-    rw c.in-Cleaned.is (λ told. back_cleaned g.T.TagText.made (text g) c.in-Cleaned.idled c.in-Cleaned.erased (omega arith) (omega arith))
+    rw c.in-Cleaned.is (λ reported. back_cleaned g.T.TagText.made (text g) c.in-Cleaned.idled c.in-Cleaned.erased (omega arith) (omega arith))
 
 pub returns-in-Refused-clause-again : goal.returns-in-Refused-clause-again
-returns-in-Refused-clause-again g c = rw c.in-Refused.is (λ told. back_refused g.T.TagText.made (text g) c.in-Refused.refusal)
+returns-in-Refused-clause-again g c = rw c.in-Refused.is (λ reported. back_refused g.T.TagText.made (text g) c.in-Refused.refusal)
 
 pub returns-in-Registered-clause-text : goal.returns-in-Registered-clause-text
 returns-in-Registered-clause-text g c = rw c.in-Registered.is c.write_all.ensures.bytes
@@ -63,4 +63,4 @@ pub returns-in-Refused-clause-text : goal.returns-in-Refused-clause-text
 returns-in-Refused-clause-text g c = rw (c.in-Refused.is, ← c.refusal_text.ensures) c.write_all-in-Refused.ensures.bytes
 
 pub returns-in-Tagged-clause-again : goal.returns-in-Tagged-clause-again
-returns-in-Tagged-clause-again g c = rw c.in-Tagged.is (λ told. c.write_tags.ensures.again)
+returns-in-Tagged-clause-again g c = rw c.in-Tagged.is (λ reported. c.write_tags.ensures.again)

@@ -12,5 +12,5 @@ returns-clause-text g c =
 
 pub returns-clause-again : goal.returns-clause-again
 returns-clause-again g c =
-    whenever c.write_all-2.result (λ told. event_again g.T.TagText.made (tag_text g.T.TagText.numerator g.T.TagText.denominator) c.args.event.now
-    c.write_worker.ensures.fits c.write_command.ensures.again (c.write_reply.ensures.again told))
+    whenever c.write_all-2.result (λ reported. event_again g.T.TagText.made (tag_text g.T.TagText.numerator g.T.TagText.denominator) c.args.event.now
+    c.write_worker.ensures.fits c.write_command.ensures.again (c.write_reply.ensures.again reported))

@@ -21,8 +21,8 @@ returns-in-Err-reply_of g c =
     let r : BookState g.row.T.Denot = state_of here.config c.reserve.new.self here.closed in
     let same : r ≡ b = book_reserved here.config here.closed here.accounts c.reserve.new.self c.reserve.ensures.kept in
     let enrolled = c.is_enrolled.ensures.0 c.if-not-is_enrolled.false in
-    let told : asked c.ask_to_pull-answer.result ≡ Err fault = sym c.reply_of.ensures ∙ c.in-Err-reply_of.is in
-    let answer = subst (Asks g.T.Tag.ops (length pass.units < length c.reserve.new.self.desks) (takes c.reserve.new.self.desks pass.clients pass.units) q p (Pull c.args.at)) told c.ask_to_pull-answer.ensures in
+    let reported : asked c.ask_to_pull-answer.result ≡ Err fault = sym c.reply_of.ensures ∙ c.in-Err-reply_of.is in
+    let answer = subst (Asks g.T.Tag.ops (length pass.units < length c.reserve.new.self.desks) (takes c.reserve.new.self.desks pass.clients pass.units) q p (Pull c.args.at)) reported c.ask_to_pull-answer.ensures in
     let asks = subst (λ (a : AccountsState g.row.T.Denot). Asks g.T.Tag.ops (length pass.units < length a.desks) (takes a.desks pass.clients pass.units) q p (Pull c.args.at) (Err fault)) c.reserve.ensures.kept answer in
     subst (λ (a : BookState g.row.T.Denot). Runs g.T.Tag.ops a pass (Pull c.args.at) r pass (Err fault)) c.self.view_is
     (subst (λ n. Runs g.T.Tag.ops b pass (Pull c.args.at) n pass (Err fault)) (sym same)

@@ -1,0 +1,4 @@
+pub mod ConsistentLemmas
+pub mod LockLemmas
+pub mod NumbersLemmas
+pub mod OpeningLemmas

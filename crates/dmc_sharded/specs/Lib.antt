@@ -1,0 +1,6 @@
+-- What a request does to a client's book when it comes in at a shard.
+pub mod Arriving
+-- What contracts see of a client's book of arrivals, of its lock, and of a server of shards.
+pub mod BookState
+-- What only contracts of private functions and proofs cite.
+pub mod internal

@@ -1,0 +1,2 @@
+-- A client's book while it is opened.
+pub mod Opening

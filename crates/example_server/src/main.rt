@@ -7,7 +7,6 @@
 #![tactic(auto)]
 
 mod auditing;
-mod flow;
 mod opening;
 mod requesting;
 mod serving;
@@ -22,40 +21,20 @@ use crate::requesting::Requester;
 use crate::serving::Worker;
 use crate::settling::settle;
 use crate::shared::Shared;
-use anyhow::{Result, bail};
+use anyhow::Result;
 use dmclock::locks::{BOOKS_PER_PAIR, BOOKS_PER_WORKER, Blank, Setup};
+use example_threads::words::{Words, read_words};
 use std::alloc::Global;
 use std::io::Eprint;
 use std::marker::Brand;
 use std::rt::Clock;
 use std::sync::Wait;
+use std::thread;
 use std::thread::Threads;
 use std::time::Instant;
-use std::{env, thread};
 
 /// The books that the mint opens: those of each client, those of each pass, and the list of the queue's segments.
 const BOOKS: u64 = BOOKS_PER_PAIR * CLIENTS as u64 + BOOKS_PER_WORKER * PASSES as u64 + 1;
-
-/// How many requests each client makes if no word says it.
-const REQUESTS: u32 = 5_000;
-
-/// What the words ask for: how many requests each client makes, and how many milliseconds are between two reports.
-#[derive(Clone, Copy)]
-struct Words {
-    requests: u32,
-    report: u64,
-}
-
-fn read_words(rt: &HostRuntime) -> Result<Words> {
-    let words: Vec<String> = env::args(rt)?.skip(1).collect(rt.alloc())?;
-    let (requests, report) = match words.as_slice() {
-        [] => (REQUESTS, 0),
-        [requests] => (requests.as_str().parse()?, 0),
-        [requests, report] => (requests.as_str().parse()?, report.as_str().parse()?),
-        _ => bail!("usage: example_server [REQUESTS [MILLISECONDS]]"),
-    };
-    Ok(Words { requests, report })
-}
 
 /// Runs the clients' threads, and then closes the queue.
 fn request_all<S: Setup + Send + Sync, R: Threads + Wait + Clock + Sync>(

@@ -4,7 +4,6 @@ ghost use Rattle.std.specs.List.{AllByRecursion};
 ghost use Rattle.dmclock.specs.Bundles.{client_side};
 ghost use Rattle.dmclock.specs.Opening.{IsNewDesk};
 
-use crate::flow::{Backlog, Served};
 use crate::requesting::{FIRST, Requester};
 use crate::serving::Worker;
 use crate::shared::{Client, SERVER, Shared, config};
@@ -14,6 +13,7 @@ use dmclock::locks::{
     open_pair,
 };
 use dmclock::{ClientId, Counting, WorkerId};
+use example_threads::flow::{Backlog, Served};
 use std::alloc::Global;
 use std::time::Instant;
 

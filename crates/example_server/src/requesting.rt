@@ -3,13 +3,13 @@ ghost use Rattle.std.specs.Prelude.{◌≡◌, IfOk, OnErr, OnOk};
 ghost use Rattle.dmclock.specs.Bundles.{Covers, stamp_holdings};
 ghost use Rattle.dmclock.specs.Moves.{tills_after_stamp, tills_after_submit};
 
-use crate::flow::BATCH;
 use crate::shared::{Client, SERVER, Shared};
 use anyhow::{Error, Result, bail};
 use dmclock::locks::{
     ClientDesk, ClientPass, Setup, Stamp, StampTills, TickLock, TrackerLock, WorkerPass,
 };
 use dmclock::{ClientId, ClientInfo, Command, Cost, Moment, Token};
+use example_threads::flow::BATCH;
 use std::rt::Clock;
 use std::sync::Wait;
 

@@ -1,8 +1,8 @@
 //! What all threads share.
-use crate::flow::{Backlog, Served};
 use anyhow::{Result, bail};
 use dmclock::locks::{Setup, TickLock, TrackerLock};
 use dmclock::{AtLimit, ClientId, FINE_HZ, Moment, QueueConfig, ServerId, Shares};
+use example_threads::flow::{Backlog, Served};
 use std::alloc::Global;
 use std::rt::Clock;
 use std::sync::Wait;

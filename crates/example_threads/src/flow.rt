@@ -1,5 +1,5 @@
-//! What holds the threads back, so that the server's memory does not grow: a client waits for its earlier requests, and all
-//! clients for the auditor.
+//! What holds the threads of an example's server back, so that its memory does not grow: a client waits for its earlier requests,
+//! and all clients for the auditor.
 use std::sync::{Condvar, Mutex, Wait};
 
 /// How many requests a client makes before it waits for those that it made before them. So twice as many are under way at most.

@@ -1,0 +1,5 @@
+//! What the examples of servers in threads share.
+#![tactic(auto)]
+
+pub mod flow;
+pub mod words;

@@ -143,7 +143,7 @@ fn workers(alloc: Global, count: u32) -> Result<Vec<WorkerId>, Fault> {
 }
 
 /// The configuration of a queue, and its workers.
-fn config_and_workers(alloc: Global, count: u32) -> Result<(QueueConfig, Vec<WorkerId>), Fault>
+pub fn config_and_workers(alloc: Global, count: u32) -> Result<(QueueConfig, Vec<WorkerId>), Fault>
     ensures { IfOk result (λ made. length made.1.items ≤ max_workers) }
 {
     let config = QueueConfig::new(u64::from(HZ), 1, 1, AtLimit::Wait)?;

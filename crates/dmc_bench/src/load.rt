@@ -6,6 +6,7 @@ use crate::fault::Fault;
 use crate::indexes::use_index;
 use crate::locked::{serve_alone, serve_locked};
 use crate::queues::{HZ, serve_deep, serve_queue};
+use crate::shards::{serve_shards, shard_book_count};
 use crate::sharing::serve_shared;
 use crate::sums::sum_tags;
 use dmc_heap::adaptive_index::HeapIndexes;
@@ -45,6 +46,8 @@ pub enum Kind {
     RotatedQueue,
     /// The lock, shared by threads.
     SharedQueue,
+    /// A server of shards, shared by threads.
+    ShardedServer,
     /// A sorted vector as an index.
     ListIndex,
     /// A heap as an index.
@@ -56,7 +59,7 @@ pub enum Kind {
 }
 
 /// A load: what is measured, with how many clients, keys or requests of one client, how often, and with which limit of
-/// each client.
+/// each client, or how many shards.
 #[derive(Clone, Copy, Debug, PartialEq, Eq)]
 pub struct Load {
     pub kind: Kind,
@@ -90,6 +93,7 @@ fn kind_of(word: &str) -> Result<Kind, Fault> {
         "warm" => Ok(Kind::WarmQueue),
         "rotated" => Ok(Kind::RotatedQueue),
         "shared" => Ok(Kind::SharedQueue),
+        "shards" => Ok(Kind::ShardedServer),
         "list-index" => Ok(Kind::ListIndex),
         "heap-index" => Ok(Kind::HeapIndex),
         "ticks" => Ok(Kind::Ticks),
@@ -122,6 +126,7 @@ pub fn run_load<R: Threads + Wait + Sync>(
         Kind::PlainQueue => run_plain::<TickTag>(rt, load),
         Kind::ListQueue => run_indexed::<TickTag, ListIndexes>(rt, load),
         Kind::SharedQueue => run_shared::<TickTag, R>(rt, threads, load),
+        Kind::ShardedServer => run_shards::<TickTag, R>(rt, threads, load),
         Kind::ListIndex => use_index::<ListIndex<TagRank<TickTag>>>(rt, load),
         Kind::HeapIndex => use_index::<IndexedHeap<TagRank<TickTag>>>(rt, load),
         Kind::Ticks => sum_tags::<TickTag>(rt, load, TickTag::new(333), TickTag::new(167)),
@@ -209,6 +214,16 @@ fn run_shared<T: Tag + Send, R: Threads + Wait + Sync>(
 ) -> Result<u64, Fault> {
     let blank = Blank::new(book_count(load.clients, load.clients)?);
     serve_shared::<T, Brand, R>(rt, threads, load, blank)
+}
+
+/// Runs the load of a server of shards that threads share.
+fn run_shards<T: Tag + Send, R: Threads + Wait + Sync>(
+    rt: &HostRuntime,
+    threads: &R,
+    load: Load,
+) -> Result<u64, Fault> {
+    let blank = Blank::new(shard_book_count(load)?);
+    serve_shards::<T, Brand, R>(rt, threads, load, blank)
 }
 
 /// A checksum with one more result in it.

@@ -9,6 +9,7 @@ mod indexes;
 mod load;
 mod locked;
 mod queues;
+mod shards;
 mod sharing;
 mod sums;
 mod watch;
@@ -27,7 +28,7 @@ fn main(rt: HostRuntime) -> ExitCode {
         Ok(()) => ExitCode::SUCCESS,
         Err(Fault::Usage) => {
             let _ = eprintln!(&rt;
-                "usage: dmc_bench plain|list|heap|deep|alone|locked|warm|rotated|shared|list-index|heap-index|ticks|ratios CLIENTS ROUNDS [LIMIT]"
+                "usage: dmc_bench plain|list|heap|deep|alone|locked|warm|rotated|shared|shards|list-index|heap-index|ticks|ratios CLIENTS ROUNDS [LIMIT|SHARDS]"
             );
             ExitCode::from(2)
         }

@@ -5,6 +5,7 @@ use dmc_text::watched::Watched;
 use dmc_tool::fault::Fault;
 use dmc_tool::fault_line::write_fault;
 use dmc_tool::inputs::SystemFiles;
+use dmc_tool::progress::{Counted, Progress};
 use dmc_tool::tool::run_tool;
 use std::io::ErrorKind;
 use std::process::ExitCode;
@@ -17,12 +18,14 @@ fn main(rt: HostRuntime) -> ExitCode {
         Ok(words) => words,
         Err(fault) => return ExitCode::from(write_fault(fault, &mut fault_writer)),
     };
-    let mut reader = Watched::new(rt.reader());
+    let progress = Progress::new();
+    let mut reader = Watched::new(Counted::new(rt.reader(), &progress));
     let mut writer = Watched::new(io::writer(&rt));
     let status = run_tool(
         &rt,
-        &SystemFiles::new(&rt),
+        &SystemFiles::new(&rt, &progress),
         words.as_slice(),
+        &progress,
         &mut reader,
         &mut writer,
         &mut fault_writer,

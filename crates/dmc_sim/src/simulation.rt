@@ -26,6 +26,7 @@ use dmc_types::config::TagKind;
 use dmc_types::limits::MAX_MOMENT;
 use dmc_types::moment::Moment;
 use std::alloc::{AllocError, Global};
+use std::sync::atomic::{AtomicU64, Ordering};
 
 /// Simulates a scene (extension). Round k, counted from 0, is at the moment k times the step, at most 2^62. In a round each
 /// client, in the scene's order, that has requests left and fewer than its window outstanding stamps one, for the server that its
@@ -36,18 +37,25 @@ use std::alloc::{AllocError, Global};
 /// `Refused`: in that simulation a queue refuses an arrival or a pull, since a sum that it needs is no value of the tag type, and
 /// this is the refusal. `Memory`: an allocation failed, and nothing more is claimed. The report's capacity is reserved before the
 /// first round.
-pub fn simulate(alloc: Global, scene: &Scene) -> Result<SimReport, SimFault>
+///
+/// After each round 1 is added to the counter, from which another thread may see how far the simulation is. Of an atomic no
+/// contract can say what it holds.
+pub fn simulate(alloc: Global, scene: &Scene, counter: &AtomicU64) -> Result<SimReport, SimFault>
     ensures simulates { Simulates scene.now result }
     ensures rows { IfOk result (IsReportOf scene.now) }
 {
     match scene.tags() {
-        TagKind::Tick => simulate_on::<TickTag>(alloc, scene),
-        TagKind::Ratio => simulate_on::<RatioTag>(alloc, scene),
+        TagKind::Tick => simulate_on::<TickTag>(alloc, scene, counter),
+        TagKind::Ratio => simulate_on::<RatioTag>(alloc, scene, counter),
     }
 }
 
 /// Simulates a scene with tags of this type.
-fn simulate_on<T: Tag>(alloc: Global, scene: &Scene) -> Result<SimReport, SimFault>
+fn simulate_on<T: Tag>(
+    alloc: Global,
+    scene: &Scene,
+    counter: &AtomicU64,
+) -> Result<SimReport, SimFault>
     requires { HaveSpacings T.ops scene.now }
     ensures simulates { SimulatesBy T.ops scene.now result }
     ensures rows { IfOk result (IsReportOf scene.now) }
@@ -55,7 +63,7 @@ fn simulate_on<T: Tag>(alloc: Global, scene: &Scene) -> Result<SimReport, SimFau
     let mut rows = Vec::with_capacity(alloc, scene.clients().len())?;
     let mut servers = idle_servers(alloc, scene.servers())?;
     let mut clients = idle_clients(alloc, scene)?;
-    let end = run_scene::<T>(alloc, scene, &mut clients, &mut servers)?;
+    let end = run_scene::<T>(alloc, scene, counter, &mut clients, &mut servers)?;
     put_rows(&clients, &mut rows);
     Ok(SimReport {
         clients: rows,
@@ -71,6 +79,7 @@ fn simulate_on<T: Tag>(alloc: Global, scene: &Scene) -> Result<SimReport, SimFau
 fn run_scene<T: Tag>(
     alloc: Global,
     scene: &Scene,
+    counter: &AtomicU64,
     clients: &mut [SimClient],
     servers: &mut [ServerReport],
 ) -> Result<Moment, SimFault>
@@ -85,7 +94,9 @@ fn run_scene<T: Tag>(
     let ids = ClientIds::of_clients(alloc, scene.clients())?;
     let mut marks = vec![in alloc; true; clients.len()]?;
     let mut core = ClusterCore::<T>::new(alloc, scene)?;
-    run(&mut core, scene, &ids, clients, &mut marks, servers)
+    run(
+        &mut core, scene, counter, &ids, clients, &mut marks, servers,
+    )
 }
 
 /// The clients, before they send anything.
@@ -123,6 +134,7 @@ fn moment_of(round: u32, step: u64) -> Moment
 fn run<T: Tag>(
     core: &mut ClusterCore<T>,
     scene: &Scene,
+    counter: &AtomicU64,
     ids: &ClientIds,
     clients: &mut [SimClient],
     marks: &mut [bool],
@@ -141,7 +153,7 @@ fn run<T: Tag>(
     ensures scenes { OnOk result (map (λ c. c.scene) clients.new ≡ map (λ c. c.scene) clients.old) }
     ensures last { (sim : Sim T) → AllAt state_of scene.now core.old clients.old servers.old sim → Ends (rounds T.ops scene.now scene.now.max_pulls 0 sim) (IsLast scene.now clients.new servers.new) result }
 {
-    let end = make_rounds(core, scene, ids, clients, marks, servers)?;
+    let end = make_rounds(core, scene, counter, ids, clients, marks, servers)?;
     count_left(core, servers);
     count_costs(core, clients);
     Ok(end)
@@ -152,6 +164,7 @@ fn run<T: Tag>(
 fn make_rounds<T: Tag>(
     core: &mut ClusterCore<T>,
     scene: &Scene,
+    counter: &AtomicU64,
     ids: &ClientIds,
     clients: &mut [SimClient],
     marks: &mut [bool],
@@ -178,6 +191,7 @@ fn make_rounds<T: Tag>(
         }
         end = moment_of(round, scene.step());
         make_round(core, ids, clients, marks, servers, end)?;
+        counter.fetch_add(1, Ordering::SeqCst);
     }
     Ok(end)
 }

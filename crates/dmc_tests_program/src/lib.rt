@@ -12,6 +12,8 @@ mod examples;
 #[cfg(test)]
 mod files;
 #[cfg(test)]
+mod progress;
+#[cfg(test)]
 mod queues;
 #[cfg(test)]
 mod replays;

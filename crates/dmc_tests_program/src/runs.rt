@@ -5,6 +5,7 @@ ghost use Rattle.std.specs.Prelude.{⊤};
 use crate::same::assert_same;
 use dmc_text::watched::Watched;
 use dmc_tool::inputs::Inputs;
+use dmc_tool::progress::Progress;
 use dmc_tool::tool::run_tool;
 use std::alloc::{AllocError, Global};
 use std::convert::AsStr;
@@ -59,7 +60,7 @@ impl<'a> Inputs for OneFile<'a> {
 }
 
 /// A file that no run names.
-const UNNAMED: OneFile<'static> = OneFile {
+pub const UNNAMED: OneFile<'static> = OneFile {
     name: "",
     bytes: b"",
 };
@@ -72,12 +73,13 @@ fn status_of<
     S: AsStr,
     R: Read,
     W: Write,
-    E: Write,
+    E: Write + Send,
 >(rt: &T, inputs: &I, words: &[S], reader: &mut R, writer: &mut W, fault_writer: &mut E) -> u8 {
     run_tool(
         rt,
         inputs,
         words,
+        &Progress::new(),
         &mut Watched::new(reader),
         &mut Watched::new(writer),
         &mut Watched::new(fault_writer),

@@ -26,6 +26,7 @@ fn tool<'a>(command: ToolCommand, tags: TagKind) -> Option<Request<'a>> {
         tool,
         file: None,
         is_explained: false,
+        shows_progress: false,
     })
 }
 
@@ -39,6 +40,7 @@ fn tool_on(command: ToolCommand, name: &str) -> Option<Request<'_>> {
         tool,
         file: Some(name),
         is_explained: false,
+        shows_progress: false,
     })
 }
 
@@ -151,6 +153,7 @@ fn words_of_an_explanation(rt: HostRuntime) -> Result<(), Fail> {
         tool,
         file: Some("events"),
         is_explained: true,
+        shows_progress: false,
     });
     asks(
         &rt,
@@ -164,6 +167,38 @@ fn words_of_an_explanation(rt: HostRuntime) -> Result<(), Fail> {
     )?;
     asks(&rt, &["check", "--explain", "--explain"], None)?;
     asks(&rt, &["--explain", "check"], None)?;
+    Ok(())
+}
+
+#[test]
+fn words_of_progress(rt: HostRuntime) -> Result<(), Fail> {
+    for command in [ToolCommand::Script, ToolCommand::Sim] {
+        let tool = Tool {
+            command,
+            tags: TagKind::Tick,
+        };
+        let shown = Some(Request::Tool {
+            tool,
+            file: None,
+            is_explained: false,
+            shows_progress: true,
+        });
+        asks(&rt, &[command.name(), "--progress"], shown)?;
+    }
+    let tool = Tool {
+        command: ToolCommand::Run,
+        tags: TagKind::Tick,
+    };
+    let both = Some(Request::Tool {
+        tool,
+        file: Some("scene"),
+        is_explained: true,
+        shows_progress: true,
+    });
+    asks(&rt, &["run", "--progress", "scene", "--explain"], both)?;
+    asks(&rt, &["run", "--progress", "--progress"], None)?;
+    asks(&rt, &["--progress", "run"], None)?;
+    asks(&rt, &["--version", "--progress"], None)?;
     Ok(())
 }
 

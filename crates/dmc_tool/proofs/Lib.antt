@@ -6,4 +6,5 @@ pub mod NoteLemmas
 pub mod RequestLemmas
 pub mod ExplainLemmas
 pub mod FaultLineLemmas
+pub mod ProgressLemmas
 pub mod VerdictRows

@@ -35,7 +35,7 @@ no_scene before after (scene.Kind key) calm = calm
 no_scene before after (scene.Value key) calm = calm
 no_scene before after scene.Memory calm = calm
 
-pub no_scene_as : {R : Type 0} (before after : Watched R) (cause : SceneFault) (result : Result SceneValue Fault) → IsCalm before after → IsErrAnd result (λ told. told ≡ fault_of_scene cause)
+pub no_scene_as : {R : Type 0} (before after : Watched R) (cause : SceneFault) (result : Result SceneValue Fault) → IsCalm before after → IsErrAnd result (λ reported. reported ≡ fault_of_scene cause)
     → SceneNoted before after result
 no_scene_as before after cause (Ok s) calm e = absurd e
 no_scene_as before after cause (Err f) calm e = subst (λ x. SceneNoted before after (Err x)) (sym e) (no_scene before after cause calm)
@@ -49,10 +49,10 @@ module _ {R W : Type 0} (left : R → Option (List ℕ)) (before after : Watched
   script_fault script.Write h = h
   script_fault script.Memory h = h
 
-  pub script_noted : (f : ScriptFault) (result : Result Outcome Fault) → SendsNoted {X = ⊤} left 0 before after old new (Err f) → IsErrAnd result (λ told. told ≡ fault_of_script f)
+  pub script_noted : (f : ScriptFault) (result : Result Outcome Fault) → SendsNoted {X = ⊤} left 0 before after old new (Err f) → IsErrAnd result (λ reported. reported ≡ fault_of_script f)
       → ScriptNoted left before after old new result
   script_noted f (Ok outcome) h e = absurd e
-  script_noted f (Err told) h e = subst (λ x. ScriptNoted left before after old new (Err x)) (sym e) (script_fault f h)
+  script_noted f (Err reported) h e = subst (λ x. ScriptNoted left before after old new (Err x)) (sym e) (script_fault f h)
 
   check_fault : (f : ScriptFault) → EndsNoted {X = Verdict} left 0 before after old new (Err f) → CheckNoted left before after old new (Err (fault_of_script f))
   check_fault (script.Line n cause) h = h
@@ -60,10 +60,10 @@ module _ {R W : Type 0} (left : R → Option (List ℕ)) (before after : Watched
   check_fault script.Write h = h
   check_fault script.Memory h = h
 
-  pub check_noted : (f : ScriptFault) (result : Result Outcome Fault) → EndsNoted {X = Verdict} left 0 before after old new (Err f) → IsErrAnd result (λ told. told ≡ fault_of_script f)
+  pub check_noted : (f : ScriptFault) (result : Result Outcome Fault) → EndsNoted {X = Verdict} left 0 before after old new (Err f) → IsErrAnd result (λ reported. reported ≡ fault_of_script f)
       → CheckNoted left before after old new result
   check_noted f (Ok outcome) h e = absurd e
-  check_noted f (Err told) h e = subst (λ x. CheckNoted left before after old new (Err x)) (sym e) (check_fault f h)
+  check_noted f (Err reported) h e = subst (λ x. CheckNoted left before after old new (Err x)) (sym e) (check_fault f h)
 
 -- ---- scenes
 
@@ -85,19 +85,19 @@ scene_fault r r' before after old fault.TurnsOut reads noted = (noted, refl)
 scene_fault r r' before after old fault.Stopped reads noted = (noted, refl)
 
 pub scene_noted : {R W : Type 0} (r r' : Option (List ℕ)) (before after : Watched R) (old : Watched W) (f : Fault) (result : Result Outcome Fault) → ReadsScene r r' (Err f) → SceneNoted before after (Err f)
-    → IsErrAnd result (λ told. told ≡ f) → ReportNoted before after old old result
+    → IsErrAnd result (λ reported. reported ≡ f) → ReportNoted before after old old result
 scene_noted r r' before after old f (Ok outcome) reads noted e = absurd e
-scene_noted r r' before after old f (Err told) reads noted e = subst (λ x. ReportNoted before after old old (Err x)) (sym e) (scene_fault r r' before after old f reads noted)
+scene_noted r r' before after old f (Err reported) reads noted e = subst (λ x. ReportNoted before after old old (Err x)) (sym e) (scene_fault r r' before after old f reads noted)
 
 -- the scene has no report
 unreported : {R W : Type 0} (before after : Watched R) (old : Watched W) (f : SimFault) → IsCalm before after → ReportNoted before after old old (Err (fault_of_sim f))
 unreported before after old (sim.Refused refusal) calm = (calm, refl)
 unreported before after old sim.Memory calm = (calm, refl)
 
-pub unreported_noted : {R W : Type 0} (before after : Watched R) (old : Watched W) (f : SimFault) (result : Result Outcome Fault) → IsCalm before after → IsErrAnd result (λ told. told ≡ fault_of_sim f)
+pub unreported_noted : {R W : Type 0} (before after : Watched R) (old : Watched W) (f : SimFault) (result : Result Outcome Fault) → IsCalm before after → IsErrAnd result (λ reported. reported ≡ fault_of_sim f)
     → ReportNoted before after old old result
 unreported_noted before after old f (Ok outcome) calm e = absurd e
-unreported_noted before after old f (Err told) calm e = subst (λ x. ReportNoted before after old old (Err x)) (sym e) (unreported before after old f calm)
+unreported_noted before after old f (Err reported) calm e = subst (λ x. ReportNoted before after old old (Err x)) (sym e) (unreported before after old f calm)
 
 -- the report is written
 pub reported_noted : {R W : Type 0} (before after : Watched R) (old new : Watched W) (b : Bool) (end : Result Outcome Fault) → end ≡ (if b then Err fault.TurnsOut else Ok Done)
@@ -115,9 +115,9 @@ run_fault before after old new run.TurnsOut calm h = (calm, h)
 run_fault before after old new run.Stopped calm h = (calm, h)
 
 pub run_noted : {R W : Type 0} (before after : Watched R) (old new : Watched W) (f : RunSceneFault) (result : Result Outcome Fault) → IsCalm before after → runs.ReportNoted old new (Err f)
-    → IsErrAnd result (λ told. told ≡ fault_of_run f) → ReportNoted before after old new result
+    → IsErrAnd result (λ reported. reported ≡ fault_of_run f) → ReportNoted before after old new result
 run_noted before after old new f (Ok outcome) calm h e = absurd e
-run_noted before after old new f (Err told) calm h e = subst (λ x. ReportNoted before after old new (Err x)) (sym e) (run_fault before after old new f calm h)
+run_noted before after old new f (Err reported) calm h e = subst (λ x. ReportNoted before after old new (Err x)) (sym e) (run_fault before after old new f calm h)
 
 -- ---- words that are not read
 
@@ -133,7 +133,7 @@ none_of left Run before old words.Usage = (refl, refl)
 none_of left Run before old words.Memory = (refl, refl)
 
 pub words_noted : {R W : Type 0} (left : R → Option (List ℕ)) (tool : Option Tool) (before : Watched R) (old : Watched W) (f : WordsFault) (result : Result Outcome Fault)
-    → IsErrAnd result (λ told. told ≡ fault_of_words f) → WordsNoted left tool before before old old result
+    → IsErrAnd result (λ reported. reported ≡ fault_of_words f) → WordsNoted left tool before before old old result
 words_noted left None before old f result e = (refl, refl)
 words_noted left (Some tool) before old f (Ok outcome) e = absurd e
-words_noted left (Some tool) before old f (Err told) e = subst (λ x. CommandNoted left tool.command before before old old (Err x)) (sym e) (none_of left tool.command before old f)
+words_noted left (Some tool) before old f (Err reported) e = subst (λ x. CommandNoted left tool.command before before old old (Err x)) (sym e) (none_of left tool.command before old f)

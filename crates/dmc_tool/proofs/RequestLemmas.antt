@@ -1,15 +1,16 @@
 -- Requests whose words are not read, and what is reported.
 use Rattle.std.proofs.Common.{◌≡◌, ◌⊎◌, ◌≤◌, ℕ, Bool, true, false, List, refl, sym, subst, arith, Option, Some, None, Result, Ok, Err, inl, inr}
 use Rattle.std.proofs.lemmas.List.{append-nil}
-use Rattle.std.specs.Prelude.{IsErrAnd}
+use Rattle.std.specs.Prelude.{IsErrAnd, option_and_then}
 use Rattle.clap.specs.Words.{Text}
 use Rattle.dmc_text.specs.Texts.{with_line_end}
 use Rattle.dmc_text.specs.Watching.{stream_of}
 use Rattle.dmc_text.specs.declared.watched.Watched.{Watched}
 use Rattle.dmc_tool.specs.Faults.{fault_of_words, status_of}
 use Rattle.dmc_tool.specs.FaultLine.{WritesFault, WritesLines, fault_text}
+use Rattle.dmc_tool.specs.Progress.{ShowsProgress}
 use Rattle.dmc_tool.specs.Runs.{Opening, Reports, ReportsFault, RunsAsked, RunsOn, RunsProgram, exit_status}
-use Rattle.dmc_tool.specs.Words.{Asked, ask_tool, ask_version, explains}
+use Rattle.dmc_tool.specs.Words.{Asked, ask_tool, ask_version, explains, shown_command}
 use Rattle.dmc_tool.specs.internal.Reported.{RefusesWords, ReportsRun, RunsReported}
 use Rattle.dmc_tool.specs.declared.fault.Fault.{Fault}
 use Rattle.dmc_tool.specs.declared.fault.Fault.TheVariants as fault
@@ -21,6 +22,12 @@ use Rattle.dmc_tool.specs.declared.words.WordsFault.{WordsFault}
 use Rattle.dmc_tool.specs.declared.words.WordsFault.TheVariants as words
 use Rattle.dmc_tool.proofs.RunLemmas.{words_unread}
 use Rattle.dmc_tool.proofs.NoteLemmas.{words_noted}
+use Rattle.dmc_tool.proofs.ProgressLemmas.{shows_none}
+
+-- whether progress is shown
+abbrev pub shows : Asked → Bool
+shows ask_version = false
+shows (ask_tool tool file is_explained shows_progress) = shows_progress
 
 -- every status is at most 4
 pub status_within : (end : Result Outcome Fault) → exit_status end ≤ 4
@@ -56,8 +63,8 @@ module _ {I R W : Type 0} (opens : Opening I) (left_of : I → Option (List ℕ)
   pub unread : (asks : Option Asked) → RunsAsked opens left_of left held asks before before old old (Err fault.Memory)
   unread None = nothing_runs fault.Memory (inr refl)
   unread (Some ask_version) = (refl, inr (inr (refl, refl)))
-  unread (Some (ask_tool tool None is_explained)) = unread_on (Some tool) words.Memory (Err fault.Memory) (λ is. absurd (cc)) refl
-  unread (Some (ask_tool tool (Some name) is_explained)) = (refl, inr (refl, inr refl))
+  unread (Some (ask_tool tool None is_explained shows_progress)) = unread_on (Some tool) words.Memory (Err fault.Memory) (λ is. absurd (cc)) refl
+  unread (Some (ask_tool tool (Some name) is_explained shows_progress)) = (refl, inr (refl, inr refl))
 
 module _ {E : Type 0} (heard : E → Option (List ℕ)) (quiet loud : Watched E) where
   -- a failed allocation has no explanation
@@ -75,12 +82,12 @@ module _ {E : Type 0} (heard : E → Option (List ℕ)) (quiet loud : Watched E)
       (written : List ToolCommand) (words : List Text) (asks : Asked) (status : ℕ) → RunsReported opens left_of left held heard asks before after old new quiet loud status
       → RunsProgram opens left_of left held heard written words (Some asks) before after old new quiet loud status
   is_run opens left_of left held before after old new written words asks status h =
-      by_end h.end h.runs h.reports h.status_is
+      by_end h.end h.shown h.runs h.shows h.reports h.status_is
     where
-      by_end : (end : Result Outcome Fault) → RunsAsked opens left_of left held (Some asks) before after old new end → ReportsRun heard asks end quiet loud → status ≡ exit_status end
-          → RunsProgram opens left_of left held heard written words (Some asks) before after old new quiet loud status
-      by_end (Ok outcome) runs reports is = record { end = Ok outcome; runs = runs; reports = reports; status_is = is }
-      by_end (Err f) runs reports is = record { end = Err f; runs = runs; reports = reports; status_is = is }
+      by_end : (end : Result Outcome Fault) (shown : Watched E) → RunsAsked opens left_of left held (Some asks) before after old new end → ShowsProgress heard (shown_command asks) quiet shown
+          → ReportsRun heard asks end shown loud → status ≡ exit_status end → RunsProgram opens left_of left held heard written words (Some asks) before after old new quiet loud status
+      by_end (Ok outcome) shown runs shows reports is = record { end = Ok outcome; shown = shown; runs = runs; shows = shows; reports = reports; status_is = is }
+      by_end (Err f) shown runs shows reports is = record { end = Err f; shown = shown; runs = runs; shows = shows; reports = reports; status_is = is }
 
   module _ {I R W : Type 0} (opens : Opening I) (left_of : I → Option (List ℕ)) (left : R → Option (List ℕ)) (held : W → Option (List ℕ)) (before : Watched R) (old : Watched W)
       (written : List ToolCommand) (words : List Text) (status : ℕ) where
@@ -88,7 +95,7 @@ module _ {E : Type 0} (heard : E → Option (List ℕ)) (quiet loud : Watched E)
     pub refused_run : (asks : Option Asked) → asks ≡ None → RefusesWords heard written words quiet loud status
         → RunsProgram opens left_of left held heard written words asks before before old old quiet loud status
     refused_run None none (f, is, reports, status_is) =
-        record { end = Err f; runs = nothing_runs opens left_of left held before old f is; reports = reports; status_is = status_is }
+        record { end = Err f; shown = quiet; runs = nothing_runs opens left_of left held before old f is; shows = refl; reports = reports; status_is = status_is }
     refused_run (Some asks) none h = absurd (cc)
 
     -- an allocation failed while the words were read
@@ -96,7 +103,9 @@ module _ {E : Type 0} (heard : E → Option (List ℕ)) (quiet loud : Watched E)
         → RunsProgram opens left_of left held heard written words asks before before old old quiet loud status
     unread_run asks h is = record {
       end = Err fault.Memory;
+      shown = quiet;
       runs = unread opens left_of left held before old asks;
+      shows = shows_none heard (option_and_then shown_command asks) quiet;
       reports = memory_reported written words asks h;
       status_is = is;
     }

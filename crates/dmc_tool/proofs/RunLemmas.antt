@@ -59,9 +59,9 @@ no_command_yet tool before old (Ok outcome) e = absurd e
 no_command_yet tool before old (Err fault) e = subst (λ f. RunsWords (Some tool) before before old old (Err f)) (sym e) (none_of tool.command tool.tags before old)
 
 pub words_unread : (tool : Option Tool) (before old : Option (List ℕ)) (fault : WordsFault) (result : Result Outcome Fault)
-    → (fault ≡ words.Usage → tool ≡ None) → IsErrAnd result (λ told. told ≡ fault_of_words fault) → RunsWords tool before before old old result
+    → (fault ≡ words.Usage → tool ≡ None) → IsErrAnd result (λ reported. reported ≡ fault_of_words fault) → RunsWords tool before before old old result
 words_unread None before old fault (Ok outcome) none e = absurd e
-words_unread None before old words.Usage (Err told) none e = (Keeps-refl before, Keeps-refl old, inl (ap Err e))
-words_unread None before old words.Memory (Err told) none e = (Keeps-refl before, Keeps-refl old, inr (ap Err e))
+words_unread None before old words.Usage (Err reported) none e = (Keeps-refl before, Keeps-refl old, inl (ap Err e))
+words_unread None before old words.Memory (Err reported) none e = (Keeps-refl before, Keeps-refl old, inr (ap Err e))
 words_unread (Some tool) before old words.Usage result none e = let no : Some tool ≡ None = none refl in absurd (cc)
 words_unread (Some tool) before old words.Memory result none e = no_command_yet tool before old result e

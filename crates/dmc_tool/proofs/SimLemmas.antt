@@ -43,7 +43,7 @@ refused before after text (scene.Value key) read end is = (text, read, end, sym 
 refused before after text scene.Memory read end is = (text, read)
 
 pub refused_as : (before after : Option (List ℕ)) (text : List ℕ) (cause : SceneFault) (result : Result SceneValue Fault) → (ReadsWithin max_bytes before after text × (length text < max_bytes → IsAtEnd after))
-    → (failed cause ≢ failed scene.Memory → failed cause ≡ scene_in text) → IsErrAnd result (λ told. told ≡ fault_of_scene cause) → ReadsScene before after result
+    → (failed cause ≢ failed scene.Memory → failed cause ≡ scene_in text) → IsErrAnd result (λ shown. shown ≡ fault_of_scene cause) → ReadsScene before after result
 refused_as before after text cause (Ok s) read is e = absurd e
 refused_as before after text cause (Err f) read is e = subst (λ x. ReadsScene before after (Err x)) (sym e) (refused before after text cause read.0 read.1 is)
 
@@ -52,10 +52,10 @@ unreported : (before after old : Option (List ℕ)) (s : SceneValue) (f : SimFau
 unreported before after old s (sim.Refused refusal) h is = ((s, refusal, h, is), Keeps-refl old)
 unreported before after old s sim.Memory h is = ((h.0, h.1), Keeps-refl old)
 
-pub unreported_as : (before after old : Option (List ℕ)) (s : SceneValue) (f : SimFault) (result : Result Outcome Fault) → ReadsScene before after (Ok s) → Simulates s (Err f) → IsErrAnd result (λ told. told ≡ fault_of_sim f)
+pub unreported_as : (before after old : Option (List ℕ)) (s : SceneValue) (f : SimFault) (result : Result Outcome Fault) → ReadsScene before after (Ok s) → Simulates s (Err f) → IsErrAnd result (λ shown. shown ≡ fault_of_sim f)
     → RunsSim before after old old result
 unreported_as before after old s f (Ok outcome) h is e = absurd e
-unreported_as before after old s f (Err told) h is e = subst (λ x. RunsSim before after old old (Err x)) (sym e) (unreported before after old s f h is)
+unreported_as before after old s f (Err shown) h is e = subst (λ x. RunsSim before after old old (Err x)) (sym e) (unreported before after old s f h is)
 
 -- the report is written
 pub reported : (before after old new : Option (List ℕ)) (b : Bool) (end : Result Outcome Fault) → end ≡ (if b then Err fault.TurnsOut else Ok Done) → WritesAll before after old new end

@@ -9,6 +9,8 @@ pub mod Notes
 pub mod Outcomes
 -- The text of a run's report.
 pub mod ReportTexts
+-- The lines that show how far a command is. How many there are depends on how long it takes, so no contract says that.
+pub mod Progress
 -- What a run of a scene in threads writes, and how it ends.
 pub mod RunReports
 -- One run of the program, by what its words ask for.

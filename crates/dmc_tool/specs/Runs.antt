@@ -1,5 +1,5 @@
 -- One run of the program, by what its words ask for.
-use Rattle.std.specs.Prelude.{◌≡◌, ◌⊎◌, ◌==◌, ℕ, ℤ, Bool, true, false, slice_get, List, [], ◌∷◌, ◌++◌, codes, Option, Some, None, Result, Ok, Err, ⊤, if◌then◌else◌}
+use Rattle.std.specs.Prelude.{◌≡◌, ◌⊎◌, ◌==◌, ℕ, ℤ, Bool, true, false, slice_get, List, [], ◌∷◌, ◌++◌, codes, Option, Some, None, Result, Ok, Err, ⊤, if◌then◌else◌, option_and_then}
 use Rattle.std.specs.Io.KnownBytes.{Keeps}
 use Rattle.dmc_types.specs.declared.config.TagKind.{TagKind}
 use Rattle.dmc_types.specs.declared.config.TagKind.TheVariants as kinds
@@ -27,7 +27,8 @@ use Rattle.dmc_tool.specs.SceneRuns.{RunsRun}
 use Rattle.dmc_tool.specs.Sims.{RunsSim}
 use Rattle.dmc_tool.specs.Explanations.{explanation, word_explanation}
 use Rattle.dmc_tool.specs.FaultLine.{Sends, WritesFault, WritesLines, fault_text}
-use Rattle.dmc_tool.specs.Words.{Asked, IsLongestPart, ask_tool, ask_version, explains, has_explain}
+use Rattle.dmc_tool.specs.Progress.{ShowsProgress}
+use Rattle.dmc_tool.specs.Words.{Asked, IsLongestPart, ask_tool, ask_version, explains, has_explain, shown_command}
 use Rattle.clap.specs.Words.{Text}
 use Rattle.dmc_tool.specs.declared.version.TheConstants.{VERSION}
 
@@ -115,8 +116,8 @@ abbrev pub RunsAsked : {I R W : Type 0} → Opening I → (I → Option (List �
     → (before after : Watched R) → (old new : Watched W) → Result Outcome Fault → Type 0
 RunsAsked opens left_of left held None before after old new end = RunsOn left held None before after old new end
 RunsAsked opens left_of left held (Some ask_version) before after old new end = (after ≡ before) × WritesVersion held old new end
-RunsAsked opens left_of left held (Some (ask_tool tool None is_explained)) before after old new end = RunsOn left held (Some tool) before after old new end
-RunsAsked opens left_of left held (Some (ask_tool tool (Some name) is_explained)) before after old new end = (after ≡ before) × RunsOnFile opens left_of held tool name old new end
+RunsAsked opens left_of left held (Some (ask_tool tool None is_explained shows_progress)) before after old new end = RunsOn left held (Some tool) before after old new end
+RunsAsked opens left_of left held (Some (ask_tool tool (Some name) is_explained shows_progress)) before after old new end = (after ≡ before) × RunsOnFile opens left_of held tool name old new end
 
 -- ---- what is reported
 
@@ -140,19 +141,22 @@ abbrev pub ReportsFault : {E : Type 0} → (E → Option (List ℕ)) → List To
 ReportsFault heard written words None fault quiet loud = ReportsWords heard written words fault quiet loud
 ReportsFault heard written words (Some asks) fault quiet loud = Reports heard (explains asks) fault quiet loud
 
--- a run without a fault does not use the fault writer
+-- a run without a fault writes none of these lines
 abbrev pub ReportsEnd : {E : Type 0} → (E → Option (List ℕ)) → List ToolCommand → List Text → Option Asked → Result Outcome Fault → (quiet loud : Watched E) → Type 0
 ReportsEnd heard written words asks (Ok outcome) quiet loud = loud ≡ quiet
 ReportsEnd heard written words asks (Err fault) quiet loud = ReportsFault heard written words asks fault quiet loud
 
 -- ---- a run of the program
 
--- What the words ask for runs, by its exit status: what is read and written, whether its streams fail, and what is reported. The
--- first arguments are those of RunsAsked, and which bytes the fault writer has taken.
+-- What the words ask for runs, by its exit status: what is read and written, whether its streams fail, which progress is shown if
+-- that is asked for, and what is reported behind it. The first arguments are those of RunsAsked, and which bytes the fault writer
+-- has taken.
 pub record RunsProgram {I R W E : Type 0} (opens : Opening I) (left_of : I → Option (List ℕ)) (left : R → Option (List ℕ)) (held : W → Option (List ℕ))
     (heard : E → Option (List ℕ)) (written : List ToolCommand) (words : List Text) (asks : Option Asked) (before after : Watched R) (old new : Watched W)
     (quiet loud : Watched E) (status : ℕ) : Type 0 where
   pub end : Result Outcome Fault
+  pub shown : Watched E
   pub runs : RunsAsked opens left_of left held asks before after old new end
-  pub reports : ReportsEnd heard written words asks end quiet loud
+  pub shows : ShowsProgress heard (option_and_then shown_command asks) quiet shown
+  pub reports : ReportsEnd heard written words asks end shown loud
   pub status_is : status ≡ exit_status end

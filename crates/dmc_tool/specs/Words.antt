@@ -32,19 +32,25 @@ kind_named word =
 
 -- ---- what is asked for
 
--- the version, or a tool, the name of the file that it reads, if that is not standard input, and whether a fault is explained
+-- the version, or a tool, the name of the file that it reads, if that is not standard input, whether a fault is explained, and
+-- whether progress is shown
 pub data Asked : Type 0 where
   ask_version : Asked
-  ask_tool : Tool → Option Text → Bool → Asked
+  ask_tool : Tool → Option Text → Bool → Bool → Asked
 
 abbrev pub asked : Request → Asked
 asked request.Version = ask_version
-asked (request.Tool tool file is_explained) = ask_tool tool (option_map (λ s. s.now) file) is_explained
+asked (request.Tool tool file is_explained shows_progress) = ask_tool tool (option_map (λ s. s.now) file) is_explained shows_progress
 
 -- whether a fault is explained
 abbrev pub explains : Asked → Bool
 explains ask_version = false
-explains (ask_tool tool file is_explained) = is_explained
+explains (ask_tool tool file is_explained shows_progress) = is_explained
+
+-- the command whose progress is shown
+abbrev pub shown_command : Asked → Option ToolCommand
+shown_command ask_version = None
+shown_command (ask_tool tool file is_explained shows_progress) = if shows_progress then Some tool.command else None
 
 -- ---- what clap gets
 
@@ -55,9 +61,9 @@ option_rule name = record (new_rule name) { long = Some name }
 abbrev pub flag_rule : Text → Rule
 flag_rule name = record (new_rule name) { long = Some name; action = Some SetTrue }
 
--- a command that takes the name of a file, and the flag `--explain`
+-- a command that takes the name of a file, and the flags `--explain` and `--progress`
 abbrev pub plain_app : Text → App
-plain_app name = with_rule (with_rule (new_app name) (new_rule (codes "file"))) (flag_rule (codes "explain"))
+plain_app name = with_rule (with_rule (with_rule (new_app name) (new_rule (codes "file"))) (flag_rule (codes "explain"))) (flag_rule (codes "progress"))
 
 -- a command that takes the option `--tags` too
 abbrev pub tagged_app : Text → App
@@ -109,7 +115,7 @@ tool_in written m =
 
 -- what the command of a match asks for
 abbrev pub command_in : List ToolCommand → Text × List Row → Option Asked
-command_in written m = option_map (λ t. ask_tool t (first_of (codes "file") m.1) (flag_in (codes "explain") m.1)) (tool_in written m)
+command_in written m = option_map (λ t. ask_tool t (first_of (codes "file") m.1) (flag_in (codes "explain") m.1) (flag_in (codes "progress") m.1)) (tool_in written m)
 
 -- what a match asks for: the version is asked for alone, or a command
 abbrev pub asked_in : List ToolCommand → List Row × Option (Text × List Row) → Option Asked

@@ -1,6 +1,7 @@
 //! The files that the words name.
 ghost use Rattle.std.specs.Prelude.{IfErr, IfOk, List, ℕ, ⊤};
 
+use crate::progress::{Counted, Progress};
 use std::fs::{self, Files};
 use std::io::{self, Read};
 
@@ -21,27 +22,29 @@ pub trait Inputs {
         ensures err { IfErr result (λ _. is_refused self.now name.now) };
 }
 
-/// The files of the system. Which file has a name there, and what is in it, no contract says.
+/// The files of the system, whose lines are counted as they are read. Which file has a name there, and what is in it, no contract
+/// says.
 #[derive(Drop)]
 pub struct SystemFiles<'a, R> {
     rt: &'a R,
+    progress: &'a Progress,
 }
 
 impl<'a, R> SystemFiles<'a, R> {
     /// The files that this runtime opens.
-    pub fn new(rt: &'a R) -> SystemFiles<'a, R> {
-        SystemFiles { rt }
+    pub fn new(rt: &'a R, progress: &'a Progress) -> SystemFiles<'a, R> {
+        SystemFiles { rt, progress }
     }
 }
 
-impl<R: Files> Inputs for SystemFiles<'_, R> {
-    type Input = R::File;
+impl<'a, R: Files> Inputs for SystemFiles<'a, R> {
+    type Input = Counted<'a, R::File>;
 
     ghost is_opened = { λ _ _ _. ⊤ };
 
     ghost is_refused = { λ _ _. ⊤ };
 
-    fn open(&self, name: &str) -> io::Result<R::File> {
-        fs::open(self.rt, name)
+    fn open(&self, name: &str) -> io::Result<Counted<'a, R::File>> {
+        Ok(Counted::new(fs::open(self.rt, name)?, self.progress))
     }
 }

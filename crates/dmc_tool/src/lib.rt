@@ -8,6 +8,7 @@ pub mod fault_line;
 pub mod inputs;
 mod makers;
 mod outcome;
+pub mod progress;
 mod run;
 mod run_report;
 mod run_scene;

@@ -7,6 +7,7 @@ ghost use Rattle.dmc_tool.specs.SceneRuns.{RunsRun};
 
 use crate::fault::Fault;
 use crate::outcome::Outcome;
+use crate::progress::Progress;
 use crate::run_scene::{RunSceneFault, run_scene};
 use crate::scenes::scene_of;
 use dmc_text::watched::Watched;
@@ -30,9 +31,11 @@ impl From<RunSceneFault> for Fault {
 }
 
 /// Runs the scene that is read in threads, and writes the report. If the run was not done, that is reported after the report.
+/// Each request that is served is counted.
 pub fn run_on<X: Threads + Wait + Sync, R: Read, W: Write>(
     rt: &X,
     alloc: Global,
+    progress: &Progress,
     reader: &mut Watched<R>,
     writer: &mut Watched<W>,
 ) -> Result<Outcome, Fault>
@@ -40,6 +43,6 @@ pub fn run_on<X: Threads + Wait + Sync, R: Read, W: Write>(
     ensures notes { ReportNoted reader.old reader.new writer.old writer.new result }
 {
     let scene = scene_of(alloc, reader)?;
-    run_scene(rt, alloc, &scene, writer)?;
+    run_scene(rt, alloc, &scene, progress, writer)?;
     Ok(Outcome::Done)
 }

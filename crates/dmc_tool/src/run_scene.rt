@@ -5,6 +5,7 @@ ghost use Rattle.dmc_tool.specs.RunReports.{ReportNoted, RunsOn, RunsScene};
 ghost use Rattle.dmc_tool.specs.internal.RunReports.{WritesReport, WritesFaultReport};
 ghost use Rattle.dmc_tool.specs.declared.run_scene.RunSceneFault.TheVariants.{Memory};
 
+use crate::progress::Progress;
 use crate::run_report::report_text;
 use crate::verdicts::check_all;
 use dmc_driver::fault::DriveFault;
@@ -22,6 +23,7 @@ use dmc_types::config::TagKind;
 use std::alloc::{AllocError, Global};
 use std::io::Write;
 use std::sync::Wait;
+use std::sync::atomic::Ordering;
 use std::thread::Threads;
 
 /// The reason why a run did not end with all of it done and reported.
@@ -47,11 +49,15 @@ impl From<AllocError> for RunSceneFault {
     }
 }
 
-/// A service that does each job by doing nothing.
-struct NoService;
+/// A service that does each job by counting it.
+#[derive(Drop)]
+struct CountingService<'a> {
+    progress: &'a Progress,
+}
 
-impl Service for NoService {
+impl Service for CountingService<'_> {
     fn serve(&self, _job: &Job) -> Result<(), ServeFault> {
+        self.progress.requests.fetch_add(1, Ordering::SeqCst);
         Ok(())
     }
 }
@@ -61,14 +67,15 @@ pub fn run_scene<R: Threads + Wait + Sync, W: Write>(
     rt: &R,
     alloc: Global,
     scene: &Scene,
+    progress: &Progress,
     writer: &mut Watched<W>,
 ) -> Result<(), RunSceneFault>
     ensures bytes { RunsScene scene.now (W.contents (stream_of writer.old)) (W.contents (stream_of writer.new)) result }
     ensures note { ReportNoted writer.old writer.new result }
 {
     match scene.tags() {
-        TagKind::Tick => run_on::<TickTag, R, W>(rt, alloc, scene, writer),
-        TagKind::Ratio => run_on::<RatioTag, R, W>(rt, alloc, scene, writer),
+        TagKind::Tick => run_on::<TickTag, R, W>(rt, alloc, scene, progress, writer),
+        TagKind::Ratio => run_on::<RatioTag, R, W>(rt, alloc, scene, progress, writer),
     }
 }
 
@@ -77,13 +84,15 @@ fn run_on<T: Tag + Send + Sync, R: Threads + Wait + Sync, W: Write>(
     rt: &R,
     alloc: Global,
     scene: &Scene,
+    progress: &Progress,
     writer: &mut Watched<W>,
 ) -> Result<(), RunSceneFault>
     ensures bytes { RunsOn T.ops scene.now (W.contents (stream_of writer.old)) (W.contents (stream_of writer.new)) result }
     ensures note { ReportNoted writer.old writer.new result }
 {
     let clock = StepClock::new(scene.step());
-    match run_cluster::<T, R, NoService, StepClock>(rt, alloc, scene, &NoService, &clock) {
+    let service = CountingService { progress };
+    match run_cluster::<T, R, CountingService<'_>, StepClock>(rt, alloc, scene, &service, &clock) {
         Ok(report) => write_report(rt, alloc, scene, &report, writer),
         Err(fault) => write_fault_report(rt, alloc, scene, fault, writer),
     }

@@ -7,6 +7,7 @@ ghost use Rattle.dmc_tool.specs.Sims.{RunsSim, end_of_sim};
 
 use crate::fault::Fault;
 use crate::outcome::Outcome;
+use crate::progress::Progress;
 use crate::scenes::scene_of;
 use dmc_sim::report::{SimFault, SimReport, report_text};
 use dmc_sim::simulation::simulate;
@@ -27,8 +28,10 @@ impl From<SimFault> for Fault {
 }
 
 /// Simulates the scene that is read, and writes the report. If the round limit was reached, that is reported after the report.
+/// Each round is counted.
 pub fn simulate_on<R: Read, W: Write>(
     alloc: Global,
+    progress: &Progress,
     reader: &mut Watched<R>,
     writer: &mut Watched<W>,
 ) -> Result<Outcome, Fault>
@@ -36,7 +39,7 @@ pub fn simulate_on<R: Read, W: Write>(
     ensures notes { ReportNoted reader.old reader.new writer.old writer.new result }
 {
     let scene = scene_of(alloc, reader)?;
-    let report = simulate(alloc, &scene)?;
+    let report = simulate(alloc, &scene, &progress.rounds)?;
     let text = report_text(alloc, &report)?;
     if !send(text.as_bytes(), writer) {
         return Err(Fault::Write);

@@ -3,9 +3,10 @@ ghost use Rattle.std.specs.Prelude.{◌≡◌, ◌≤◌, Some, map};
 ghost use Rattle.dmc_text.specs.Watching.{stream_of};
 ghost use Rattle.dmc_tool.specs.Notes.{CheckNoted, CommandNoted, ScriptNoted};
 ghost use Rattle.dmc_tool.specs.Faults.{status_of};
+ghost use Rattle.dmc_tool.specs.Progress.{ShowsProgress, WritesProgress};
 ghost use Rattle.dmc_tool.specs.Runs.{Reports, RunsAsked, RunsCommand, RunsOnFile, RunsProgram};
 ghost use Rattle.dmc_tool.specs.internal.Reported.{RefusesWords, RunsReported};
-ghost use Rattle.dmc_tool.specs.Words.{asked, asked_by_words};
+ghost use Rattle.dmc_tool.specs.Words.{asked, asked_by_words, shown_command};
 ghost use Rattle.dmc_tool.specs.declared.words.ToolCommand.TheVariants.{Check, Script};
 
 use crate::explain::{has_explain, longest_part, word_at, write_explained, write_usage};
@@ -13,6 +14,7 @@ use crate::fault::Fault;
 use crate::fault_line::write_fault;
 use crate::inputs::Inputs;
 use crate::outcome::Outcome;
+use crate::progress::{Progress, write_progress};
 use crate::version::write_version;
 use crate::words::{Request, Tool, ToolCommand, WRITTEN, WordsFault, read_words};
 use crate::{check, run, script, sim};
@@ -22,11 +24,12 @@ use std::alloc::Global;
 use std::convert::AsStr;
 use std::io::{Read, Write};
 use std::sync::Wait;
-use std::thread::Threads;
+use std::thread::{Threads, join_mut};
 
 /// Runs what the words ask for: a tool, on the reader or on the file that they name, or the version, which is written. Replies and
 /// verdicts go to the writer, a fault's text to the fault writer as one line, with a second that explains it if the words ask for
-/// that. The words are those after the program's name. A file that can't be opened is reported as `Read`. It returns the exit
+/// that. If the words ask for progress, another thread writes the lines of what is counted in `progress` to the fault writer while
+/// the command runs. The words are those after the program's name. A file that can't be opened is reported as `Read`. It returns the exit
 /// status: 0 if all is done, 1 at a fault, 2 if the words ask for nothing, 3 if events do not replay, 4 if a simulation or a run
 /// ended early.
 pub fn run_tool<
@@ -35,11 +38,12 @@ pub fn run_tool<
     S: AsStr,
     R: Read,
     W: Write,
-    E: Write,
+    E: Write + Send,
 >(
     rt: &T,
     inputs: &I,
     words: &[S],
+    progress: &Progress,
     reader: &mut Watched<R>,
     writer: &mut Watched<W>,
     fault_writer: &mut Watched<E>,
@@ -49,7 +53,7 @@ pub fn run_tool<
     ensures status { result ≤ 4 }
 {
     match read_words(rt.alloc(), words) {
-        Ok(request) => run_reported(rt, inputs, request, reader, writer, fault_writer),
+        Ok(request) => run_reported(rt, inputs, request, progress, reader, writer, fault_writer),
         Err(WordsFault::Usage) => refuse_words(rt.alloc(), words, fault_writer),
         Err(WordsFault::Memory) => write_fault(Fault::Memory, fault_writer),
     }
@@ -68,11 +72,18 @@ fn refuse_words<S: AsStr, E: Write>(alloc: Global, words: &[S], fault_writer: &m
     }
 }
 
-/// Runs what is asked for, reports its fault, and returns the exit status.
-fn run_reported<T: AllocGlobal + Threads + Wait + Sync, I: Inputs, R: Read, W: Write, E: Write>(
+/// Runs what is asked for, shows its progress if that is asked for, reports its fault, and returns the exit status.
+fn run_reported<
+    T: AllocGlobal + Threads + Wait + Sync,
+    I: Inputs,
+    R: Read,
+    W: Write,
+    E: Write + Send,
+>(
     rt: &T,
     inputs: &I,
     request: Request<'_>,
+    progress: &Progress,
     reader: &mut Watched<R>,
     writer: &mut Watched<W>,
     fault_writer: &mut Watched<E>,
@@ -81,10 +92,88 @@ fn run_reported<T: AllocGlobal + Threads + Wait + Sync, I: Inputs, R: Read, W: W
         reader.old reader.new writer.old writer.new fault_writer.old fault_writer.new result }
 {
     let is_explained = request.is_explained();
-    match run_request(rt, inputs, request, reader, writer) {
+    match run_shown(rt, inputs, request, progress, reader, writer, fault_writer) {
         Ok(outcome) => outcome.status(),
         Err(fault) => report(fault, is_explained, fault_writer),
     }
+}
+
+/// Runs what is asked for, and shows its progress if that is asked for.
+fn run_shown<T: AllocGlobal + Threads + Wait + Sync, I: Inputs, R: Read, W: Write, E: Write + Send>(
+    rt: &T,
+    inputs: &I,
+    request: Request<'_>,
+    progress: &Progress,
+    reader: &mut Watched<R>,
+    writer: &mut Watched<W>,
+    fault_writer: &mut Watched<E>,
+) -> Result<Outcome, Fault>
+    ensures runs { RunsAsked (record { is_opened = I.is_opened inputs.now; is_refused = I.is_refused inputs.now }) I.Input.remaining R.remaining W.contents (Some (asked request.entry))
+        reader.old reader.new writer.old writer.new result }
+    ensures shows { ShowsProgress E.contents (shown_command (asked request.entry)) fault_writer.old fault_writer.new }
+{
+    match request.shown_command() {
+        None => run_request(rt, inputs, request, progress, reader, writer),
+        Some(command) => run_beside(
+            rt,
+            inputs,
+            request,
+            command,
+            progress,
+            reader,
+            writer,
+            fault_writer,
+        ),
+    }
+}
+
+/// Runs what is asked for in this thread, and writes the progress of the command in another one.
+fn run_beside<
+    T: AllocGlobal + Threads + Wait + Sync,
+    I: Inputs,
+    R: Read,
+    W: Write,
+    E: Write + Send,
+>(
+    rt: &T,
+    inputs: &I,
+    request: Request<'_>,
+    command: ToolCommand,
+    progress: &Progress,
+    reader: &mut Watched<R>,
+    writer: &mut Watched<W>,
+    fault_writer: &mut Watched<E>,
+) -> Result<Outcome, Fault>
+    ensures runs { RunsAsked (record { is_opened = I.is_opened inputs.now; is_refused = I.is_refused inputs.now }) I.Input.remaining R.remaining W.contents (Some (asked request.entry))
+        reader.old reader.new writer.old writer.new result }
+    ensures shows { WritesProgress E.contents command fault_writer.old fault_writer.new }
+{
+    let mut write = ||
+        ensures { WritesProgress E.contents command fault_writer.entry.now fault_writer.exit.now }
+    { write_progress(rt, command, progress, fault_writer) };
+    let mut run = || -> Result<Outcome, Fault>
+        ensures { RunsAsked (record { is_opened = I.is_opened inputs.entry.now; is_refused = I.is_refused inputs.entry.now }) I.Input.remaining R.remaining W.contents (Some (asked request.entry))
+            reader.entry.now reader.exit.now writer.entry.now writer.exit.now result }
+    { run_to_end(rt, inputs, request, progress, reader, writer) };
+    let ((), end) = join_mut(rt, &mut write, &mut run);
+    end
+}
+
+/// Runs what is asked for, and then ends its progress.
+fn run_to_end<T: AllocGlobal + Threads + Wait + Sync, I: Inputs, R: Read, W: Write>(
+    rt: &T,
+    inputs: &I,
+    request: Request<'_>,
+    progress: &Progress,
+    reader: &mut Watched<R>,
+    writer: &mut Watched<W>,
+) -> Result<Outcome, Fault>
+    ensures { RunsAsked (record { is_opened = I.is_opened inputs.now; is_refused = I.is_refused inputs.now }) I.Input.remaining R.remaining W.contents (Some (asked request.entry))
+        reader.old reader.new writer.old writer.new result }
+{
+    let end = run_request(rt, inputs, request, progress, reader, writer);
+    progress.end();
+    end
 }
 
 /// Reports a fault, and explains it if that is asked for. Returns the exit status.
@@ -104,6 +193,7 @@ fn run_request<T: AllocGlobal + Threads + Wait + Sync, I: Inputs, R: Read, W: Wr
     rt: &T,
     inputs: &I,
     request: Request<'_>,
+    progress: &Progress,
     reader: &mut Watched<R>,
     writer: &mut Watched<W>,
 ) -> Result<Outcome, Fault>
@@ -116,12 +206,12 @@ fn run_request<T: AllocGlobal + Threads + Wait + Sync, I: Inputs, R: Read, W: Wr
             tool,
             file: None,
             ..
-        } => run_command(rt, tool, reader, writer),
+        } => run_command(rt, tool, progress, reader, writer),
         Request::Tool {
             tool,
             file: Some(name),
             ..
-        } => run_on_file(rt, inputs, tool, name, writer),
+        } => run_on_file(rt, inputs, tool, name, progress, writer),
     }
 }
 
@@ -131,6 +221,7 @@ fn run_on_file<T: AllocGlobal + Threads + Wait + Sync, I: Inputs, W: Write>(
     inputs: &I,
     tool: Tool,
     name: &str,
+    progress: &Progress,
     writer: &mut Watched<W>,
 ) -> Result<Outcome, Fault>
     ensures { RunsOnFile (record { is_opened = I.is_opened inputs.now; is_refused = I.is_refused inputs.now }) I.Input.remaining W.contents tool name.now writer.old writer.new result }
@@ -139,13 +230,14 @@ fn run_on_file<T: AllocGlobal + Threads + Wait + Sync, I: Inputs, W: Write>(
         return Err(Fault::Read);
     };
     let mut reader = Watched::new(input);
-    run_command(rt, tool, &mut reader, writer)
+    run_command(rt, tool, progress, &mut reader, writer)
 }
 
 /// Runs the command of a tool.
 fn run_command<T: AllocGlobal + Threads + Wait + Sync, R: Read, W: Write>(
     rt: &T,
     tool: Tool,
+    progress: &Progress,
     reader: &mut Watched<R>,
     writer: &mut Watched<W>,
 ) -> Result<Outcome, Fault>
@@ -157,8 +249,8 @@ fn run_command<T: AllocGlobal + Threads + Wait + Sync, R: Read, W: Write>(
     match tool.command {
         ToolCommand::Script => run_script(alloc, tool.tags, reader, writer),
         ToolCommand::Check => check_events(alloc, tool.tags, reader, writer),
-        ToolCommand::Sim => sim::simulate_on(alloc, reader, writer),
-        ToolCommand::Run => run::run_on(rt, alloc, reader, writer),
+        ToolCommand::Sim => sim::simulate_on(alloc, progress, reader, writer),
+        ToolCommand::Run => run::run_on(rt, alloc, progress, reader, writer),
     }
 }
 

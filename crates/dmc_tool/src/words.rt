@@ -3,7 +3,7 @@ ghost use Rattle.std.specs.Prelude.{◌≡◌, IfErr, IfOk, None, Some, codes, f
 ghost use Rattle.std.specs.Str.{bytes_eq};
 ghost use Rattle.clap.specs.Words.{app_of, found_of, kind_of, new_app, rows_of, rule_of, subcommand_rows_of, with_rule, with_subcommand};
 ghost use Rattle.clap.specs.declared.builder.command.Command.TheViews.{out-Command as fields_of};
-ghost use Rattle.dmc_tool.specs.Words.{ask_version, asked, asked_by_words, asked_in, bare, command_in, explains, fault_at, plain_app, flag_in, flag_rule, kind_named, name_of, program_app, tagged_app, tags_in, tool_in};
+ghost use Rattle.dmc_tool.specs.Words.{ask_version, asked, asked_by_words, asked_in, bare, command_in, explains, fault_at, plain_app, flag_in, flag_rule, kind_named, name_of, program_app, shown_command, tagged_app, tags_in, tool_in};
 ghost use Rattle.dmc_tool.specs.declared.words.WordsFault.TheVariants.{Memory, Usage};
 
 use clap::error::ErrorKind;
@@ -46,11 +46,13 @@ pub struct Tool {
 pub enum Request<'a> {
     /// The version of the program.
     Version,
-    /// A tool, the name of the file that it reads, if that is not standard input, and whether a fault is explained.
+    /// A tool, the name of the file that it reads, if that is not standard input, whether a fault is explained, and whether
+    /// progress is shown.
     Tool {
         tool: Tool,
         file: Option<&'a str>,
         is_explained: bool,
+        shows_progress: bool,
     },
 }
 
@@ -90,6 +92,20 @@ impl Request<'_> {
         match self {
             Request::Version => false,
             Request::Tool { is_explained, .. } => *is_explained,
+        }
+    }
+
+    /// The command whose progress is shown, if that is asked for.
+    pub fn shown_command(&self) -> Option<ToolCommand>
+        ensures { result ≡ shown_command (asked self.now) }
+    {
+        match self {
+            Request::Tool {
+                tool,
+                shows_progress: true,
+                ..
+            } => Some(tool.command),
+            _ => None,
         }
     }
 }
@@ -185,13 +201,14 @@ fn with_plain<'a>(
     program.subcommand(plain(alloc, command)?)
 }
 
-// A command that takes a file's name and the flag `--explain`.
+// A command that takes a file's name and the flags `--explain` and `--progress`.
 fn plain<'a>(alloc: Global, command: ToolCommand) -> Result<Command<'a>, AllocError>
     ensures app { IfOk result (λ c. app_of c ≡ plain_app (name_of command)) }
     ensures local { IfOk result (λ c. (fields_of c).has_globals ≡ false) }
 {
     let command = Command::new(alloc, command.name()).arg(Arg::new(alloc, "file"))?;
-    command.arg(flag(alloc, "explain"))
+    let command = command.arg(flag(alloc, "explain"))?;
+    command.arg(flag(alloc, "progress"))
 }
 
 // A command that takes the option `--tags` too.
@@ -232,6 +249,7 @@ fn command_of<'a>(name: &str, options: &ArgMatches<'a>) -> Option<Request<'a>>
         tool,
         file: options.get_str("file"),
         is_explained: is_given("explain", options),
+        shows_progress: is_given("progress", options),
     })
 }
 

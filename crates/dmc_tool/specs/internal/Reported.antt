@@ -3,8 +3,9 @@ use Rattle.std.specs.Prelude.{◌≡◌, ◌⊎◌, ℕ, List, Option, Some, Res
 use Rattle.clap.specs.Words.{Text}
 use Rattle.dmc_text.specs.declared.watched.Watched.{Watched}
 use Rattle.dmc_tool.specs.Faults.{status_of}
+use Rattle.dmc_tool.specs.Progress.{ShowsProgress}
 use Rattle.dmc_tool.specs.Runs.{Opening, Reports, ReportsWords, RunsAsked, exit_status}
-use Rattle.dmc_tool.specs.Words.{Asked, explains}
+use Rattle.dmc_tool.specs.Words.{Asked, explains, shown_command}
 use Rattle.dmc_tool.specs.declared.fault.Fault.{Fault}
 use Rattle.dmc_tool.specs.declared.fault.Fault.TheVariants.{Usage, Memory}
 use Rattle.dmc_tool.specs.declared.outcome.Outcome.{Outcome}
@@ -20,10 +21,12 @@ abbrev pub ReportsRun : {E : Type 0} → (E → Option (List ℕ)) → Asked →
 ReportsRun heard asks (Ok outcome) quiet loud = loud ≡ quiet
 ReportsRun heard asks (Err fault) quiet loud = Reports heard (explains asks) fault quiet loud
 
--- what is asked for runs, and its end is reported
+-- what is asked for runs, its progress is shown if that is asked for, and its end is reported
 pub record RunsReported {I R W E : Type 0} (opens : Opening I) (left_of : I → Option (List ℕ)) (left : R → Option (List ℕ)) (held : W → Option (List ℕ))
     (heard : E → Option (List ℕ)) (asks : Asked) (before after : Watched R) (old new : Watched W) (quiet loud : Watched E) (status : ℕ) : Type 0 where
   pub end : Result Outcome Fault
+  pub shown : Watched E
   pub runs : RunsAsked opens left_of left held (Some asks) before after old new end
-  pub reports : ReportsRun heard asks end quiet loud
+  pub shows : ShowsProgress heard (shown_command asks) quiet shown
+  pub reports : ReportsRun heard asks end shown loud
   pub status_is : status ≡ exit_status end

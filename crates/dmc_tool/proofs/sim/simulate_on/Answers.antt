@@ -13,18 +13,18 @@ returns-in_err-report-clause-bytes g c =
 
 pub returns-then-not-send-clause-bytes : goal.returns-then-not-send-clause-bytes
 returns-then-not-send-clause-bytes g c =
-    let told = c.in_ok-text.ensures in (
+    let shown = c.in_ok-text.ensures in (
       c.in_ok-scene.scene,
       c.in_ok-report.report,
       c.in_ok-scene.ensures.bytes,
       c.in_ok-report.ensures.simulates,
       c.in_ok-report.ensures.rows,
-      subst (AppendsSome (g.W.Write.contents (stream_of c.args.writer.now)) (g.W.Write.contents (stream_of c.send.new.writer))) (c.as_bytes.ensures.value ∙ told) c.send.ensures.some,
+      subst (AppendsSome (g.W.Write.contents (stream_of c.args.writer.now)) (g.W.Write.contents (stream_of c.send.new.writer))) (c.as_bytes.ensures.value ∙ shown) c.send.ensures.some,
     )
 
 pub returns-clause-bytes : goal.returns-clause-bytes
 returns-clause-bytes g c =
-    let told = c.in_ok-text.ensures in
+    let shown = c.in_ok-text.ensures in
     reported (g.R.Read.remaining (stream_of c.args.reader.now)) (g.R.Read.remaining (stream_of c.scene_of.new.reader)) (g.W.Write.contents (stream_of c.args.writer.now)) (g.W.Write.contents (stream_of c.send.new.writer)) c.in_ok-report.report.turns_out
     c.end_of.result c.end_of.ensures (
       c.in_ok-scene.scene,
@@ -33,7 +33,7 @@ returns-clause-bytes g c =
       c.in_ok-report.ensures.simulates,
       c.in_ok-report.ensures.rows,
       (
-        subst (Appends (g.W.Write.contents (stream_of c.args.writer.now)) (g.W.Write.contents (stream_of c.send.new.writer))) (c.as_bytes.ensures.value ∙ told) (c.send.ensures.all c.if-not-send.false),
+        subst (Appends (g.W.Write.contents (stream_of c.args.writer.now)) (g.W.Write.contents (stream_of c.send.new.writer))) (c.as_bytes.ensures.value ∙ shown) (c.send.ensures.all c.if-not-send.false),
         c.end_of.ensures,
       ),
     )

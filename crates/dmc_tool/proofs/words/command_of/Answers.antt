@@ -12,4 +12,4 @@ returns c =
     let tool : tool_in WRITTEN (c.args.name.now, rows_of found) ≡ Some c.in_ok-tool.tool = search rules in
     let file : option_map (λ s. s.now) c.get_str.result ≡ first_of (codes "file") (rows_of found) =
     c.get_str.ensures ∙ first_value-rows found (codes "file") in
-    rw (tool, file, c.is_given.ensures) refl
+    rw (tool, file, c.is_given.ensures, c.is_given-2.ensures) refl

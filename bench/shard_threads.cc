@@ -11,7 +11,8 @@
 
 namespace {
 
-struct Shard {
+// In cache lines of its own.
+struct alignas(128) Shard {
   std::mutex lock;
   shared_heaps::Queue queue;
 };
@@ -23,7 +24,8 @@ std::uint64_t nanos() {
 }
 
 // A client's requests at its shard. Each call takes the lock, as each call of the library does.
-void serve(Shard &shard, std::uint32_t client, std::uint32_t requests, std::uint64_t &granted) {
+void serve(Shard &shard, std::uint32_t client, std::uint32_t requests, std::uint64_t &sum) {
+  std::uint64_t granted = 0;
   for (std::uint32_t i = 0; i < requests; i++) {
     {
       const std::lock_guard<std::mutex> guard(shard.lock);
@@ -33,6 +35,7 @@ void serve(Shard &shard, std::uint32_t client, std::uint32_t requests, std::uint
     const std::lock_guard<std::mutex> guard(shard.lock);
     if (shard.queue.pull(0, whose, token)) granted++;
   }
+  sum = granted;
 }
 
 } // namespace

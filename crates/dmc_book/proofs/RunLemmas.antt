@@ -100,13 +100,13 @@ module _ {T : Type 0} (ops : Tagging T) (old new : BookState T) (before later : 
   pass_kept (Err run.HistoryFull) h = h.1
   pass_kept (Err run.Memory) h = h.1
 
-  pub told_stranger : (r : Result (Reply T) RunFault) → Runs ops old before command new later r → (IsEnrolled old.workers before → ⊥) → r ≡ Err run.Stranger
-  told_stranger (Ok reply) h none = absurd (none h.1)
-  told_stranger (Err run.Stranger) h none = refl
-  told_stranger (Err run.Behind) h none = absurd (none h.2)
-  told_stranger (Err run.NoDesk) h none = absurd (none h.2)
-  told_stranger (Err run.HistoryFull) h none = absurd (none h.2)
-  told_stranger (Err run.Memory) h none = absurd (none h.2)
+  pub refused_stranger : (r : Result (Reply T) RunFault) → Runs ops old before command new later r → (IsEnrolled old.workers before → ⊥) → r ≡ Err run.Stranger
+  refused_stranger (Ok reply) h none = absurd (none h.1)
+  refused_stranger (Err run.Stranger) h none = refl
+  refused_stranger (Err run.Behind) h none = absurd (none h.2)
+  refused_stranger (Err run.NoDesk) h none = absurd (none h.2)
+  refused_stranger (Err run.HistoryFull) h none = absurd (none h.2)
+  refused_stranger (Err run.Memory) h none = absurd (none h.2)
 
   pub strays_if_told : (r : Result (Reply T) RunFault) → Runs ops old before command new later r → r ≡ Err run.Stranger → IsEnrolled old.workers before → StraysHere ops old before command
   strays_if_told (Ok reply) h e enrolled = absurd cc
@@ -137,23 +137,23 @@ module _ {T : Type 0} (ops : Tagging T) (old new : BookState T) (before later : 
   behind_if_told (Err run.HistoryFull) h e = absurd cc
   behind_if_told (Err run.Memory) h e = absurd cc
 
-  pub told_no_desk : (r : Result (Reply T) RunFault) → Runs ops old before command new later r
+  pub refused_no_desk : (r : Result (Reply T) RunFault) → Runs ops old before command new later r
       → (r ≡ Err run.NoDesk) ↔ (IsEnrolled old.workers before × (lacks_desk old.desks command ≡ true))
-  told_no_desk (Ok reply) h = (λ e. absurd cc, λ k. absurd (true≢false (sym k.1 ∙ h.2)))
-  told_no_desk (Err run.Stranger) h = (λ e. absurd cc, λ k. absurd (true≢false (sym k.1 ∙ (h.2 k.0).0)))
-  told_no_desk (Err run.Behind) h = (λ e. absurd cc, λ k. absurd (true≢false (sym k.1 ∙ h.3)))
-  told_no_desk (Err run.NoDesk) h = (λ e. (h.2, h.3), λ k. refl)
-  told_no_desk (Err run.HistoryFull) h = (λ e. absurd cc, λ k. absurd (true≢false (sym k.1 ∙ h.3)))
-  told_no_desk (Err run.Memory) h = (λ e. absurd cc, λ k. absurd (true≢false (sym k.1 ∙ h.3)))
+  refused_no_desk (Ok reply) h = (λ e. absurd cc, λ k. absurd (true≢false (sym k.1 ∙ h.2)))
+  refused_no_desk (Err run.Stranger) h = (λ e. absurd cc, λ k. absurd (true≢false (sym k.1 ∙ (h.2 k.0).0)))
+  refused_no_desk (Err run.Behind) h = (λ e. absurd cc, λ k. absurd (true≢false (sym k.1 ∙ h.3)))
+  refused_no_desk (Err run.NoDesk) h = (λ e. (h.2, h.3), λ k. refl)
+  refused_no_desk (Err run.HistoryFull) h = (λ e. absurd cc, λ k. absurd (true≢false (sym k.1 ∙ h.3)))
+  refused_no_desk (Err run.Memory) h = (λ e. absurd cc, λ k. absurd (true≢false (sym k.1 ∙ h.3)))
 
-  pub told_full : (r : Result (Reply T) RunFault) → Runs ops old before command new later r
+  pub refused_full : (r : Result (Reply T) RunFault) → Runs ops old before command new later r
       → (r ≡ Err run.HistoryFull) ↔ (IsEnrolled old.workers before × (lacks_desk old.desks command ≡ false) × IsFull ops old before command)
-  told_full (Ok reply) h = (λ e. absurd cc, λ k. absurd (h.3 k.2))
-  told_full (Err run.Stranger) h = (λ e. absurd cc, λ k. absurd ((h.2 k.0).1 k.2))
-  told_full (Err run.Behind) h = (λ e. absurd cc, λ k. absurd (h.4 k.2))
-  told_full (Err run.NoDesk) h = (λ e. absurd cc, λ k. absurd (true≢false (sym h.3 ∙ k.1)))
-  told_full (Err run.HistoryFull) h = (λ e. (h.2, h.3, h.4), λ k. refl)
-  told_full (Err run.Memory) h = (λ e. absurd cc, λ k. absurd (h.4 k.2))
+  refused_full (Ok reply) h = (λ e. absurd cc, λ k. absurd (h.3 k.2))
+  refused_full (Err run.Stranger) h = (λ e. absurd cc, λ k. absurd ((h.2 k.0).1 k.2))
+  refused_full (Err run.Behind) h = (λ e. absurd cc, λ k. absurd (h.4 k.2))
+  refused_full (Err run.NoDesk) h = (λ e. absurd cc, λ k. absurd (true≢false (sym h.3 ∙ k.1)))
+  refused_full (Err run.HistoryFull) h = (λ e. (h.2, h.3, h.4), λ k. refl)
+  refused_full (Err run.Memory) h = (λ e. absurd cc, λ k. absurd (h.4 k.2))
 
   pub memory_if_told : (r : Result (Reply T) RunFault) → Runs ops old before command new later r → r ≡ Err run.Memory
       → LacksMemory ops old command

@@ -44,18 +44,18 @@ on_text (Some text) P Q f h = f text h
 module _ {T : Type 0} (ops : Tagging T) (made : ℤ → ℕ → Option T) where
   -- ---- events
 
-  told_holds : (recorded : Option (Recorded T)) (old new : Replay T) (event : Event T)
+  event_holds : (recorded : Option (Recorded T)) (old new : Replay T) (event : Event T)
       → ((config : Setting) (events : List (Event T)) → RepresentsEvents ops config events old → RepresentsEvents ops config (events ++ event ∷ []) new)
       → Holds ops recorded (Some old) → Holds ops (with_line recorded (event_lines.Event event)) (Some new)
-  told_holds None old new event f h = absurd h
-  told_holds (Some r) old new event f h = f r.config r.events h
+  event_holds None old new event f h = absurd h
+  event_holds (Some r) old new event f h = f r.config r.events h
 
   -- an event is replayed
-  pub told_on : {X E : Type 0} (result : Result X E) (old new : Replay T) (event : Event T)
+  pub event_on : {X E : Type 0} (result : Result X E) (old new : Replay T) (event : Event T)
       → ((config : Setting) (events : List (Event T)) → RepresentsEvents ops config events old → OnOk result (RepresentsEvents ops config (events ++ event ∷ []) new))
       → OnOk result ((recorded : Option (Recorded T)) → Holds ops recorded (Some old) → Holds ops (with_line recorded (event_lines.Event event)) (Some new))
-  told_on (Ok x) old new event f = λ recorded h. told_holds recorded old new event f h
-  told_on (Err e) old new event f = tt
+  event_on (Ok x) old new event f = λ recorded h. event_holds recorded old new event f h
+  event_on (Err e) old new event f = tt
 
   -- before the hz line nothing is replayed
   pub none_begun : (event : Event T) (recorded : Option (Recorded T)) → Holds ops recorded None → Holds ops (with_line recorded (event_lines.Event event)) None

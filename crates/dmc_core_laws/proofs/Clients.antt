@@ -153,11 +153,11 @@ module _ (counting : Counting) (s : ServerId) (arrived : List Params) (c : Clien
 
   -- an arrival at q
   module _ {T : Type 0} (id : ClientId) (q : ServerId) (m : Message) (at : ℕ) (first : slice_get (pair_at q c.pairs).flight 0 ≡ Some m) where
-    abbrev told_of : Reply T → List (Event T)
-    told_of reply = recorded_events (is_server s q) (Some (commands.Add id m.token m.params at)) (Ok (Served reply))
+    abbrev reported_of : Reply T → List (Event T)
+    reported_of reply = recorded_events (is_server s q) (Some (commands.Add id m.token m.params at)) (Ok (Served reply))
 
     abbrev Follows : Reply T → Type 0
-    Follows reply = IsFollowed counting s (arrived ++ params_of (arrivals id (told_of reply))) (client_after_arrival q reply c)
+    Follows reply = IsFollowed counting s (arrived ++ params_of (arrivals id (reported_of reply))) (client_after_arrival q reply c)
 
     -- an add that is not accepted is no arrival
     unaccepted : (reply : Reply T) → ((pair : Pair) → after_arrival reply pair ≡ pair) → arrivals id (entry (commands.Add id m.token m.params at) reply ∷ []) ≡ [] → Follows reply

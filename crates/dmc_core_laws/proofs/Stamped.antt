@@ -109,13 +109,13 @@ module _ {T : Type 0} (ops : Tagging T) (counting : Counting) (id : ClientId) (s
   the_same : (run : Run T) (client : ClientId) (c d : Client) → client ≡ id → client_in run client ≡ Some c → client_in run id ≡ Some d → c ≡ d
   the_same run client c d same found there = same_Some c d (sym found ∙ ap (client_in run) same ∙ there)
 
-  abbrev told_by : Run T → CoreEvent → Answer T → List (Event T)
-  told_by run e answer = recorded_events (is_server s (server_named e)) (queue_command run e) answer
+  abbrev reported_by : Run T → CoreEvent → Answer T → List (Event T)
+  reported_by run e answer = recorded_events (is_server s (server_named e)) (queue_command run e) answer
 
-  accepted : (arrived : List Params) (run : Run T) (e : CoreEvent) (x : Run T × CoreReply T) → AreFollowed arrived run → Gives ops run e x → AreFollowed (more arrived (told_by run e (Ok x.1))) x.0
+  accepted : (arrived : List Params) (run : Run T) (e : CoreEvent) (x : Run T × CoreReply T) → AreFollowed arrived run → Gives ops run e x → AreFollowed (more arrived (reported_by run e (Ok x.1))) x.0
   accepted arrived run (Stamp client q token cost) x is g =
       let m : Message = record { token = token; params = demanded run.counting q cost g.client.list } in
-      let reported = told_by run (Stamp client q token cost) (Ok x.1) in
+      let reported = reported_by run (Stamp client q token cost) (Ok x.1) in
       let none = ap (arrivals id) (nothing_handed (is_server s q) (Ok x.1)) in
       changed arrived run x.0 reported client (λ old. after_stamp q m g.client) is (ap (λ (y : Run T × CoreReply T). y.0.counting) g.is) (ap (λ (y : Run T × CoreReply T). y.0.clients) g.is)
       (λ y h. found_passes (λ (z : Client). is_client client z.id) run.clients g.client g.found)
@@ -125,7 +125,7 @@ module _ {T : Type 0} (ops : Tagging T) (counting : Counting) (id : ClientId) (s
       subst (λ ps. IsFollowed counting s ps (after_stamp q m g.client)) (sym (nothing_more arrived reported none)) (stamp_follows counting s arrived g.client (subst (IsFollowed counting s arrived) (sym one) follows) q m cost due))
       (λ e. none)
   accepted arrived run (Respond client q phase cost) x is g =
-      let reported = told_by run (Respond client q phase cost) (Ok x.1) in
+      let reported = reported_by run (Respond client q phase cost) (Ok x.1) in
       let none = ap (arrivals id) (nothing_handed (is_server s q) (Ok x.1)) in
       changed arrived run x.0 reported client (λ old. after_response q phase cost g.client) is (ap (λ (y : Run T × CoreReply T). y.0.counting) g.is) (ap (λ (y : Run T × CoreReply T). y.0.clients) g.is)
       (λ y h. found_passes (λ (z : Client). is_client client z.id) run.clients g.client g.found)
@@ -138,9 +138,9 @@ module _ {T : Type 0} (ops : Tagging T) (counting : Counting) (id : ClientId) (s
       let reply = (step ops g.state (commands.Add client m.token m.params at)).1 in
       let oldest_is : oldest run client q ≡ Some m = ap (option_and_then (λ c. slice_get (pair_at q c.pairs).flight 0)) g.found ∙ g.first in
       let handed_is : queue_command run (Arrive client q at) ≡ Some (commands.Add client m.token m.params at) = ap (option_map (λ n. commands.Add client n.token n.params at)) oldest_is in
-      let told_is : told_by run (Arrive client q at) (Ok x.1) ≡ recorded_events (is_server s q) (Some (commands.Add client m.token m.params at)) (Ok (Served reply)) =
+      let reported_is : reported_by run (Arrive client q at) (Ok x.1) ≡ recorded_events (is_server s q) (Some (commands.Add client m.token m.params at)) (Ok (Served reply)) =
       ap (λ o. recorded_events (is_server s q) o (Ok x.1)) handed_is ∙ ap (λ (y : Run T × CoreReply T). recorded_events (is_server s q) (Some (commands.Add client m.token m.params at)) (Ok y.1)) g.is in
-      subst (λ reported. AreFollowed (more arrived reported) x.0) (sym told_is)
+      subst (λ reported. AreFollowed (more arrived reported) x.0) (sym reported_is)
       (changed arrived run x.0 (recorded_events (is_server s q) (Some (commands.Add client m.token m.params at)) (Ok (Served reply))) client (λ old. client_after_arrival q reply g.client) is (ap (λ (y : Run T × CoreReply T). y.0.counting) g.is) (ap (λ (y : Run T × CoreReply T). y.0.clients) g.is)
       (λ y h. found_passes (λ (z : Client). is_client client z.id) run.clients g.client g.found)
       (λ same c found follows.
@@ -149,22 +149,22 @@ module _ {T : Type 0} (ops : Tagging T) (counting : Counting) (id : ClientId) (s
       (arrival_follows counting s arrived g.client (subst (IsFollowed counting s arrived) (sym one) follows) id q m at g.first reply))
       (λ e. no_arrival (is_server s q) (commands.Add client m.token m.params at) (Ok (Served reply)) (λ r. no_other client m at r e)))
   accepted arrived run (Pull q at) x is g =
-      pulled_clients q ((step ops g.state (commands.Pull at)).1) arrived run x.0 ((with_server q ((step ops g.state (commands.Pull at)).0) run).servers) (told_by run (Pull q at) (Ok x.1)) is (ap (λ (y : Run T × CoreReply T). y.0) g.is)
+      pulled_clients q ((step ops g.state (commands.Pull at)).1) arrived run x.0 ((with_server q ((step ops g.state (commands.Pull at)).0) run).servers) (reported_by run (Pull q at) (Ok x.1)) is (ap (λ (y : Run T × CoreReply T). y.0) g.is)
       (no_arrival (is_server s q) (commands.Pull at) (Ok x.1) (λ r. refl))
-  accepted arrived run (Update q client info at) x is g = untouched arrived run x.0 (told_by run (Update q client info at) (Ok x.1)) is (ap (λ (y : Run T × CoreReply T). y.0.counting) g.is) (ap (λ (y : Run T × CoreReply T). y.0.clients) g.is) (no_arrival (is_server s q) (commands.Update client info at) (Ok x.1) (λ r. refl))
-  accepted arrived run (Remove q client) x is g = untouched arrived run x.0 (told_by run (Remove q client) (Ok x.1)) is (ap (λ (y : Run T × CoreReply T). y.0.counting) g.is) (ap (λ (y : Run T × CoreReply T). y.0.clients) g.is) (no_arrival (is_server s q) (commands.Remove client) (Ok x.1) (λ r. refl))
-  accepted arrived run (Cancel q client token) x is g = untouched arrived run x.0 (told_by run (Cancel q client token) (Ok x.1)) is (ap (λ (y : Run T × CoreReply T). y.0.counting) g.is) (ap (λ (y : Run T × CoreReply T). y.0.clients) g.is) (no_arrival (is_server s q) (commands.Cancel client token run.counting) (Ok x.1) (λ r. refl))
-  accepted arrived run (Clean q at) x is g = untouched arrived run x.0 (told_by run (Clean q at) (Ok x.1)) is (ap (λ (y : Run T × CoreReply T). y.0.counting) g.is) (ap (λ (y : Run T × CoreReply T). y.0.clients) g.is) (no_arrival (is_server s q) (commands.Clean at) (Ok x.1) (λ r. refl))
+  accepted arrived run (Update q client info at) x is g = untouched arrived run x.0 (reported_by run (Update q client info at) (Ok x.1)) is (ap (λ (y : Run T × CoreReply T). y.0.counting) g.is) (ap (λ (y : Run T × CoreReply T). y.0.clients) g.is) (no_arrival (is_server s q) (commands.Update client info at) (Ok x.1) (λ r. refl))
+  accepted arrived run (Remove q client) x is g = untouched arrived run x.0 (reported_by run (Remove q client) (Ok x.1)) is (ap (λ (y : Run T × CoreReply T). y.0.counting) g.is) (ap (λ (y : Run T × CoreReply T). y.0.clients) g.is) (no_arrival (is_server s q) (commands.Remove client) (Ok x.1) (λ r. refl))
+  accepted arrived run (Cancel q client token) x is g = untouched arrived run x.0 (reported_by run (Cancel q client token) (Ok x.1)) is (ap (λ (y : Run T × CoreReply T). y.0.counting) g.is) (ap (λ (y : Run T × CoreReply T). y.0.clients) g.is) (no_arrival (is_server s q) (commands.Cancel client token run.counting) (Ok x.1) (λ r. refl))
+  accepted arrived run (Clean q at) x is g = untouched arrived run x.0 (reported_by run (Clean q at) (Ok x.1)) is (ap (λ (y : Run T × CoreReply T). y.0.counting) g.is) (ap (λ (y : Run T × CoreReply T). y.0.clients) g.is) (no_arrival (is_server s q) (commands.Clean at) (Ok x.1) (λ r. refl))
 
-  event_follows : (arrived : List Params) (run : Run T) (e : CoreEvent) → AreFollowed arrived run → AreFollowed (more arrived (told_by run e ((cluster_step ops run e).1))) ((cluster_step ops run e).0)
-  event_follows arrived run e is = step_goes ops run e (λ p. AreFollowed (more arrived (told_by run e p.1)) p.0)
-      (λ fault. untouched arrived run run (told_by run e (Err fault)) is refl refl (ap (arrivals id) (nothing_refused (is_server s (server_named e)) (queue_command run e) fault)))
+  event_follows : (arrived : List Params) (run : Run T) (e : CoreEvent) → AreFollowed arrived run → AreFollowed (more arrived (reported_by run e ((cluster_step ops run e).1))) ((cluster_step ops run e).0)
+  event_follows arrived run e is = step_goes ops run e (λ p. AreFollowed (more arrived (reported_by run e p.1)) p.0)
+      (λ fault. untouched arrived run run (reported_by run e (Err fault)) is refl refl (ap (arrivals id) (nothing_refused (is_server s (server_named e)) (queue_command run e) fault)))
       (λ x given. accepted arrived run e x is (gives ops run e x given))
 
   events_follow : (arrived : List Params) (run : Run T) (es : List CoreEvent) → AreFollowed arrived run → AreFollowed (more arrived (history_from ops s run es)) (run_after ops run es)
   events_follow arrived run [] is = subst (λ ps. AreFollowed ps run) (sym (append-nil arrived)) is
   events_follow arrived run (e ∷ es) is =
-      let now = told_by run e ((cluster_step ops run e).1) in
+      let now = reported_by run e ((cluster_step ops run e).1) in
       let next = (cluster_step ops run e).0 in
       let later = history_from ops s next es in
       let rest = events_follow (more arrived now) next es (event_follows arrived run e is) in

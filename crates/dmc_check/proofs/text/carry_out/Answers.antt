@@ -1,5 +1,5 @@
 -- A line's replay: nothing happens, one begins, or one more event is replayed.
-use Rattle.dmc_check.proofs.TextEnds.{told_on, none_begun}
+use Rattle.dmc_check.proofs.TextEnds.{event_on, none_begun}
 use Rattle.dmc_check.proofs.text.carry_out.Goals as goal
 
 pub returns-in-Skip : goal.returns-in-Skip
@@ -16,4 +16,4 @@ returns-in-None g c = rw (c.in-Event.is, c.in-None.is) (none_begun g.T.Tag.ops g
 
 pub returns-in-Some : goal.returns-in-Some
 returns-in-Some g c =
-    rw (c.in-Event.is, c.in-Some.is) (told_on g.T.Tag.ops g.T.TagText.made c.add.result c.in-Some.replay c.add.new.self c.in-Event.event c.add.ensures.added)
+    rw (c.in-Event.is, c.in-Some.is) (event_on g.T.Tag.ops g.T.TagText.made c.add.result c.in-Some.replay c.add.new.self c.in-Event.event c.add.ensures.added)

@@ -1,7 +1,10 @@
 #!/usr/bin/env bash
-# The load of bench/calls.c through C, beside a queue in C++ in the design of Ceph's library (bench/shared_heaps.cc), without
-# limits and with a limit of 10 a second: the median ratio of the nanoseconds of a pull and an add of 15 runs in turn (with the
-# quarters), and instructions by callgrind, as the difference of runs of two lengths. Build the library first: make c
+# The load of bench/calls.c through C, beside a queue in C++ in the design of Ceph's library (bench/shared_heaps.cc), without limits,
+# with limits of 10 a second, which is the reservation too, and with limits of 100. Each is of a pull and an add:
+#   bench/shared_heaps.sh counts  instructions, and misses of a first cache of 32 kB and of a last one of 1 MB, by cachegrind, as the
+#                                 difference of runs of two lengths; other work on the machine does not change them
+#   bench/shared_heaps.sh times   the median ratio of the nanoseconds of 15 runs in turn, with the quarters
+# Build the library first: make c
 set -eu
 cd "$(dirname "$0")/.."
 folder=$(mktemp -d)
@@ -10,20 +13,31 @@ trap 'rm -rf "$folder"' EXIT
 "${CXX:-c++}" -std=c++17 -O2 -Wall -Wextra -Werror -o "$folder/cc" bench/shared_heaps.cc
 # nanoseconds of a pull and an add
 nanos() { "$@" 2>&1 > /dev/null | awk '$1 == "pull" || $1 == "add" { sum += $3 / $2 } END { print sum }'; }
-instructions() {
-  valgrind --tool=callgrind --callgrind-out-file=/dev/null "$@" 2>&1 > /dev/null | awk '/Collected/ { print $4 }'
+# instructions of a run, and its misses of the first cache and of the last
+counts_of() {
+  valgrind --tool=cachegrind --cache-sim=yes --I1=32768,8,64 --D1=32768,8,64 --LL=1048576,16,64 --cachegrind-out-file=/dev/null "$@" \
+    2>&1 > /dev/null | awk '{ gsub(",", "") } / I +refs/ { i = $4 } / D1 +misses/ { d = $4 } / LLd misses/ { l = $4 } END { print i, d, l }'
 }
-# instructions of a pull and an add: PROGRAM CLIENTS FEW MANY LIMIT
-each() { echo $((($(instructions "$1" "$2" "$4" $5) - $(instructions "$1" "$2" "$3" $5)) / ($4 - $3))); }
-for limit in "" 10; do
-  for clients in 2 10 100 1000 65536; do
-    for turn in 1 2 3 4 5 6 7 8 9 10 11 12 13 14 15; do
-      echo "$(nanos "$folder/c" "$clients" 400000 $limit) $(nanos "$folder/cc" "$clients" 400000 $limit)"
-    done | awk '{ print $1 / $2, $1, $2 }' | sort -n | awk -v n="$clients" -v l="${limit:-no}" '
-      { ratio[NR] = $1; c[NR] = $2; cc[NR] = $3 }
-      END { printf "%6d clients, limit %s: time %.2f (%.2f to %.2f), about %.0f ns to %.0f", n, l, ratio[8], ratio[4], ratio[12], c[8], cc[8] }'
-    few=10000 many=60000
-    if [ "$clients" -gt 1000 ]; then few=$clients many=$((3 * clients)); fi
-    echo ", $(each "$folder/c" "$clients" $few $many "$limit") to $(each "$folder/cc" "$clients" $few $many "$limit") instructions"
+# the same of a pull and an add: PROGRAM CLIENTS FEW MANY LIMIT
+each() {
+  echo "$(counts_of "$1" "$2" "$3" $5) $(counts_of "$1" "$2" "$4" $5)" |
+    awk -v n=$(($4 - $3)) '{ printf "%d instructions, %.1f and %.1f misses", ($4 - $1) / n, ($5 - $2) / n, ($6 - $3) / n }'
+}
+count() {
+  few=10000 many=60000
+  if [ "$1" -gt 1000 ]; then few=$1 many=$((3 * $1)); fi
+  echo "$(each "$folder/c" "$1" $few $many "$2"); in C++ $(each "$folder/cc" "$1" $few $many "$2")"
+}
+time_in_turn() {
+  for turn in 1 2 3 4 5 6 7 8 9 10 11 12 13 14 15; do
+    echo "$(nanos "$folder/c" "$1" 400000 $2) $(nanos "$folder/cc" "$1" 400000 $2)"
+  done | awk '{ print $1 / $2, $1, $2 }' | sort -n | awk '
+    { ratio[NR] = $1; c[NR] = $2; cc[NR] = $3 }
+    END { printf "time %.2f (%.2f to %.2f), about %.0f ns to %.0f\n", ratio[8], ratio[4], ratio[12], c[8], cc[8] }'
+}
+for limit in "" 10 100; do
+  for clients in 2 10 100 1000 10000 65536; do
+    printf "limit %s, %d clients: " "${limit:-none}" "$clients"
+    if [ "${1:-times}" = counts ]; then count "$clients" "$limit"; else time_in_turn "$clients" "$limit"; fi
   done
 done

@@ -51,6 +51,8 @@ struct Job<S: Setup> {
     tracker: ServiceTracker,
     requests: u32,
     granted: u32,
+    // Two cache lines between this job and the next, which another thread writes.
+    apart: [u64; 16],
 }
 
 /// How many shards the load has.
@@ -202,6 +204,7 @@ fn open_job<T: Tag, I: Indexes<T>, S: Setup, R: Wait>(
         tracker,
         requests: load.rounds.checked_div(load.clients).unwrap_or(0),
         granted: 0,
+        apart: [0; 16],
     })
 }
 

@@ -29,6 +29,7 @@ use dmc_ledger::mint::Mint;
 use dmc_ledger::setup::Setup;
 use dmc_ledger::stamp::Stamp;
 use dmc_queue_history::segment::Segment;
+use dmc_shared::pad::{CACHE_PAD, CachePad};
 use dmc_shared::witness::{Lasting, NoWitness, ReleaseWitness, Witness};
 use dmc_tag::reply::{Pulled, Reply, Tags};
 use dmc_tag::tag::Tag;
@@ -65,6 +66,8 @@ pub struct LockedQueue<B: Lasting, W: Witness<B>> {
     guarded: Mutex<Guarded<B, W>>,
     // Notified if something is queued and a thread waits, and if the book is closed.
     changed: Condvar,
+    // Between this lock and what lies beside it.
+    apart: CachePad,
 }
 
 /// A queue's book that threads share, without a witness. A worker's own pass steps with each call; each call is one of the
@@ -109,6 +112,7 @@ impl<B: OfServer + Lasting, W: Witness<B>> LockedQueue<B, W> {
             server: book.its_server(),
             guarded: Mutex::new(Guarded::new(book, witness)),
             changed: Condvar::new(),
+            apart: CACHE_PAD,
         }
     }
 }

@@ -1,22 +1,26 @@
--- A book stays consistent when a request comes in, when its shard's queue refuses it, and when a shard is skipped.
+-- A book stays consistent when a request comes in, when its shard's queue refuses it, when a response leaves, and when a shard is
+-- skipped.
 use Rattle.std.proofs.Common.{◌≡◌, ℕ, ◌+◌, ◌-◌, ◌<◌, ◌≤◌, Result, Ok, Err, List, length, map, set, get_or, refl, sym, ap, ◌∙◌, subst, arith, inl, inr, ◌==◌}
 use Rattle.std.specs.Prelude.{slice_set, IsOk, OnOk, OnErr}
-use Rattle.std.proofs.lemmas.List.{set-get_or, get_or-set_same, get_or-set_other, get_or-map, length-map, length-set}
+use Rattle.std.proofs.lemmas.List.{set-get_or, get_or-set_same, get_or-set_other, get_or-map, length-map, length-set, map-set}
 use Rattle.std.proofs.lemmas.Bool.Decides.{eqb_tells}
 use Rattle.std.proofs.lemmas.Bool.{cases_lt}
 use Rattle.dmc_types.specs.Limits.{max_count}
 use Rattle.dmc_types.specs.Values.{Params, Counts, counts_of}
 use Rattle.dmc_types.specs.declared.ids.ServerId.{ServerId}
+use Rattle.dmc_types.specs.declared.config.PhaseType.{PhaseType}
 use Rattle.dmc_tracker.specs.TrackerList.{plus}
 use Rattle.dmc_tracker.proofs.ForCallers.{same_server}
 use Rattle.dmc_shards.specs.declared.status.ShardStatus.{ShardStatus}
 use Rattle.dmc_shards.specs.ShardNumbers.{Numbers, numbers_at, next_params, after_arrival, after_skip, grown, IsFullAt}
 use Rattle.dmc_ledger.specs.Accounts.{Account, Holding}
-use Rattle.dmc_ledger.specs.Moves.{after_issue, with_more, with_less}
+use Rattle.dmc_ledger.specs.Bundles.{UnitValue}
+use Rattle.dmc_ledger.specs.Moves.{after_issue, tills_in, with_more, with_less}
 use Rattle.dmc_sharded.specs.declared.desk.ShardDesk.{ShardDesk}
 use Rattle.dmc_sharded.specs.BookState.{BookState, DeskState, desk_at, desk_state, new_desk, IsBook, IsDesk, IsConsistent}
 use Rattle.dmc_sharded.specs.declared.fault.ArriveFault.{ArriveFault}
 use Rattle.dmc_sharded.specs.declared.fault.ArriveFault.TheVariants.{NoServer, TrackFull, Queue}
+use Rattle.dmc_sharded.specs.Responding.{book_after_unit, desk_after_response}
 use Rattle.dmc_sharded.specs.Arriving.{covered, taken, book_after_arrival, book_after_skip, IsAfterRefusal, IsDeskAfterRefusal}
 use Rattle.dmc_sharded.proofs.NumbersLemmas.{arrival_here, arrival_there, balanced_after_arrival, balanced_after_skip, sent_after_skip}
 
@@ -80,6 +84,22 @@ desks_set P Q desks s x within each its others q inside =
 
 -- ---- the book
 
+-- one desk is replaced
+with_desk : (b : BookState) (s : ServerId) → s.0 < length b.desks → IsConsistent b → (x : DeskState) → IsDesk b.client (numbers_at b.tracker s).sent s.0 x
+    → IsConsistent (record b { desks = slice_set b.desks s.0 x })
+with_desk b s within h x its =
+    let desks = length-set b.desks s.0 x in
+    record {
+      balanced = λ q q_in. h.balanced q (omega (arith, q_in, desks));
+      desks = desks_set
+          (λ q d. IsDesk b.client (numbers_at b.tracker q).sent q.0 d) (λ q d. IsDesk b.client (numbers_at b.tracker q).sent q.0 d)
+          b.desks s x within h.desks its (λ q d q_in apart kept. kept);
+      shards = desks ∙ h.shards;
+      rho = h.rho;
+      delta = h.delta;
+      most = h.most;
+    }
+
 module _ (b : BookState) (s : ServerId) (params : Params) (within : s.0 < length b.desks) (h : IsConsistent b) where
   inside : s.0 < length b.tracker.shards
   inside = omega (arith, within, h.shards)
@@ -103,27 +123,12 @@ module _ (b : BookState) (s : ServerId) (params : Params) (within : s.0 < length
         most = h.most;
       }
 
-  -- one desk is replaced
-  with_desk : (x : DeskState) → IsDesk b.client (numbers_at b.tracker s).sent s.0 x → IsConsistent (record b { desks = slice_set b.desks s.0 x })
-  with_desk x its =
-      let desks = length-set b.desks s.0 x in
-      record {
-        balanced = λ q q_in. h.balanced q (omega (arith, q_in, desks));
-        desks = desks_set
-            (λ q d. IsDesk b.client (numbers_at b.tracker q).sent q.0 d) (λ q d. IsDesk b.client (numbers_at b.tracker q).sent q.0 d)
-            b.desks s x within h.desks its (λ q d q_in apart kept. kept);
-        shards = desks ∙ h.shards;
-        rho = h.rho;
-        delta = h.delta;
-        most = h.most;
-      }
-
   pub consistent_after_refusal : (old new : DeskState) (fault : ArriveFault) → desk_at b.desks s.0 ≡ old → (next_params b.tracker s params).delta ≤ max_count → (next_params b.tracker s params).rho ≤ max_count
       → IsDeskAfterRefusal (next_params b.tracker s params) old new fault → IsConsistent (record b { desks = slice_set b.desks s.0 new })
-  consistent_after_refusal old new NoServer at delta rho e = with_desk new (rw (e, ← at) (h.desks s within))
-  consistent_after_refusal old new TrackFull at delta rho e = with_desk new (rw (e, ← at) (h.desks s within))
+  consistent_after_refusal old new NoServer at delta rho e = with_desk b s within h new (rw (e, ← at) (h.desks s within))
+  consistent_after_refusal old new TrackFull at delta rho e = with_desk b s within h new (rw (e, ← at) (h.desks s within))
   consistent_after_refusal old new (Queue cause) at delta rho e =
-      with_desk new (rw (e, ← at) (desk_covered b.client (numbers_at b.tracker s).sent s.0 (next_params b.tracker s params) (desk_at b.desks s.0) delta rho (h.desks s within)))
+      with_desk b s within h new (rw (e, ← at) (desk_covered b.client (numbers_at b.tracker s).sent s.0 (next_params b.tracker s params) (desk_at b.desks s.0) delta rho (h.desks s within)))
 
 -- what a refusal leaves, as it is seen
 pub refusal_seen : (b : BookState) (s : ServerId) (params : Params) (old new : DeskState) (fault : ArriveFault) → desk_at b.desks s.0 ≡ old
@@ -172,3 +177,37 @@ module _ (b : BookState) (s : ServerId) where
       → (IsOk r → s.0 < length b.tracker.shards) → IsConsistent b → IsConsistent (record b { tracker = new })
   consistent_after_skip (Ok x) new after kept inside h = rw after (skipped (inside refl) h)
   consistent_after_skip (Err e) new after kept inside h = rw kept h
+
+-- ---- a response
+
+desk_responded : (client : ℕ) (sent : Counts) (s : ℕ) (phase : PhaseType) (cost : ℕ) (d : DeskState) → IsDesk client sent s d
+    → IsDesk client sent s (desk_after_response phase cost d)
+desk_responded client sent s phase cost d h = record {
+  its_client = h.its_client;
+  its_server = h.its_server;
+  stamps = h.stamps;
+  delta = h.delta;
+  rho = h.rho;
+}
+
+pub consistent_after_unit : (b : BookState) (unit : UnitValue) → unit.server < length b.desks → IsConsistent b → IsConsistent (book_after_unit unit b)
+consistent_after_unit b unit within h =
+    let s : ServerId = record { 0 = unit.server } in
+    with_desk b s within h (desk_after_response unit.phase unit.cost (desk_at b.desks unit.server))
+    (desk_responded b.client (numbers_at b.tracker s).sent unit.server unit.phase unit.cost (desk_at b.desks unit.server) (h.desks s within))
+
+-- the tills of a phase at the desk of a shard, as they are seen
+pub held_seen : {S : Type 0} (items : List (ShardDesk S)) (i s : ℕ) (x : ShardDesk S) (given phase : PhaseType) → i ≡ s → i < length items → x ≡ get_or items i x
+    → given ≡ phase → tills_in given (desk_state x).side.held ≡ tills_in phase (desk_at (map desk_state items) s).side.held
+held_seen items i s x given phase place within is named =
+    ap (λ k. tills_in k (desk_state x).side.held) named
+    ∙ ap (λ (d : DeskState). tills_in phase d.side.held) (sym (desk_found items i x within is))
+    ∙ ap (λ n. tills_in phase (desk_at (map desk_state items) n).side.held) place
+
+-- a response at that desk, as it is seen
+pub unit_seen : {S : Type 0} (items : List (ShardDesk S)) (i s : ℕ) (old new : ShardDesk S) (phase : PhaseType) (cost : ℕ) → i ≡ s → i < length items
+    → old ≡ get_or items i old → desk_state new ≡ desk_after_response phase cost (desk_state old)
+    → map desk_state (set items i new) ≡ set (map desk_state items) s (desk_after_response phase cost (desk_at (map desk_state items) s))
+unit_seen {S} items i s old new phase cost place within is e =
+    let f : ShardDesk S → DeskState = desk_state in
+    rw (← place) (map-set f items i new ∙ ap (λ x. set (map f items) i x) (e ∙ ap (desk_after_response phase cost) (sym (desk_found items i old within is))))

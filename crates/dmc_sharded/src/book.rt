@@ -1,24 +1,28 @@
 //! A client's book of arrivals.
-ghost use Rattle.std.specs.Prelude.{◌≡◌, ◌+◌, ◌-◌, ◌*◌, ◌<◌, ◌≤◌, ◌↔◌, ◌⊎◌, length, map, IfOk, IfErr, IfSome, OnOk, OnErr, IsOk, IsErrOf, IsOkUnless, slice_get};
+ghost use Rattle.std.specs.Prelude.{◌≡◌, ◌+◌, ◌-◌, ◌*◌, ◌<◌, ◌≤◌, ◌↔◌, ◌⊎◌, length, map, IfOk, IfErr, IfSome, OnOk, OnErr, IsOk, IsErrAnd, IsErrOf, IsOkUnless, slice_get};
 ghost use Rattle.dmc_tag.specs.declared.reply.Reply.TheVariants as replies;
 ghost use Rattle.dmc_types.specs.declared.command.Command.TheVariants as commands;
 ghost use Rattle.dmc_tracker.specs.Numbers.{AreLimits};
 ghost use Rattle.dmc_tracker.specs.TrackerList.{plus};
 ghost use Rattle.dmc_shards.specs.ShardNumbers.{next_params, IsFullAt};
-ghost use Rattle.dmc_ledger.specs.Bundles.{books_per_pair, client_side};
+ghost use Rattle.dmc_ledger.specs.Bundles.{books_per_pair, client_side, phase_holdings, HoldsGrant};
+ghost use Rattle.dmc_ledger.specs.Moves.{without_grant};
 ghost use Rattle.dmc_book.specs.BookState.{pass_state};
 ghost use Rattle.dmc_qlock.specs.Calls.{Replied};
 ghost use Rattle.dmc_sharded.specs.BookState.{AreOpenLimits, IsNewBook, AreNewQueues, IsConsistent, desk_state, desk_at};
 ghost use Rattle.dmc_sharded.specs.Arriving.{book_after_arrival, book_after_skip, covered, taken, IsAfterRefusal, IsArrivalFull, IsStampFull, PassAfter};
+ghost use Rattle.dmc_sharded.specs.Responding.{book_after_unit, IsUnitOf};
 
-use crate::desk::{ShardDesk, open_desks};
-use crate::fault::ArriveFault;
+use crate::desk::{ShardDesk, find_grants, open_desks};
+use crate::fault::{ArriveFault, UnitCause, UnitFault};
 use dmc_book::book::QueueBook;
 use dmc_book::pass::WorkerPass;
 use dmc_index::index::Indexes;
+use dmc_ledger::bundle::PhaseTills;
 use dmc_ledger::desk::{BOOKS_PER_PAIR, ClientDesk};
 use dmc_ledger::mint::Mint;
 use dmc_ledger::setup::Setup;
+use dmc_ledger::unit::Unit;
 use dmc_qlock::lock::QueueLock;
 use dmc_shards::status::ShardStatus;
 use dmc_shards::tracker::ShardTracker;
@@ -201,6 +205,49 @@ impl<S: Setup> ArrivalBook<S> {
         ensures kept { OnErr result (self.new ≡ self.old) }
     {
         self.tracker.skip(shard)
+    }
+
+    /// The response to a unit's grant leaves for the client: takes the grant from the worker's tills, of its phase and with its cost.
+    /// A worker can be dismissed once this was done with each of its grants. What the client's own tracker counts of it is not known
+    /// here.
+    ///
+    /// Refused `NoServer`; `Stranger` if the unit is another client's, or the tills are not of this client's grants at its shard in
+    /// its phase. Each refusal hands the unit back.
+    pub fn respond(&mut self, unit: Unit, tills: &mut PhaseTills<S>) -> Result<(), UnitFault>
+        requires { HoldsGrant (phase_holdings tills.old) unit.cost }
+        ensures book { OnOk result (self.new ≡ book_after_unit unit self.old) }
+        ensures tills { OnOk result (phase_holdings tills.new ≡ without_grant unit.cost (phase_holdings tills.old)) }
+        ensures handed_back { IfErr result (λ fault. fault.unit ≡ unit) }
+        ensures kept { OnErr result (self.new ≡ self.old) }
+        ensures tills_kept { OnErr result (phase_holdings tills.new ≡ phase_holdings tills.old) }
+        ensures no_server { IsErrAnd result (λ fault. fault.cause ≡ UnitCause.NoServer) ↔ (length self.old.desks ≤ unit.server) }
+        ensures stranger { IsErrAnd result (λ fault. fault.cause ≡ UnitCause.Stranger)
+            ↔ ((unit.server < length self.old.desks) × (IsUnitOf self.old unit (phase_holdings tills.old) → ⊥)) }
+    {
+        match self.respond_to(&unit, tills) {
+            Ok(()) => Ok(()),
+            Err(cause) => Err(UnitFault { unit, cause }),
+        }
+    }
+
+    /// The same with a unit that is lent.
+    pub(crate) fn respond_to(
+        &mut self,
+        unit: &Unit,
+        tills: &mut PhaseTills<S>,
+    ) -> Result<(), UnitCause>
+        requires { HoldsGrant (phase_holdings tills.old) unit.now.cost }
+        ensures book { OnOk result (self.new ≡ book_after_unit unit.now self.old) }
+        ensures tills { OnOk result (phase_holdings tills.new ≡ without_grant unit.now.cost (phase_holdings tills.old)) }
+        ensures kept { OnErr result (self.new ≡ self.old) }
+        ensures tills_kept { OnErr result (phase_holdings tills.new ≡ phase_holdings tills.old) }
+        ensures no_server { IsErrOf result UnitCause.NoServer ↔ (length self.old.desks ≤ unit.now.server) }
+        ensures stranger { IsErrOf result UnitCause.Stranger
+            ↔ ((unit.now.server < length self.old.desks) × (IsUnitOf self.old unit.now (phase_holdings tills.old) → ⊥)) }
+    {
+        let place = find_grants(&self.desks, self.client, unit, tills)?;
+        self.desks[place].take(unit.phase(), unit.cost(), tills);
+        Ok(())
     }
 
     /// What was sent to a shard, what was skipped there and what is pending, or `None` if there is no such shard.

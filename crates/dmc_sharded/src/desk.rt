@@ -1,30 +1,34 @@
 //! A client's side of a shard.
 ghost use Rattle.std.specs.Prelude.{◌≡◌, ℕ, ◌+◌, ◌-◌, ◌*◌, ◌<◌, ◌≤◌, ◌^◌, ◌↔◌, length, map, vec_capacity, IfOk, IfErr, OnOk, OnErr, IsErr, IsErrOf};
 ghost use Rattle.dmc_ledger.specs.Accounts.{total_of};
-ghost use Rattle.dmc_ledger.specs.Bundles.{books_per_pair, client_side, new_client_side, stamp_accounts, stamp_holdings, Covers};
-ghost use Rattle.dmc_ledger.specs.Moves.{after_issue, books_after_opening, new_tills, with_more, AreOf};
+ghost use Rattle.dmc_ledger.specs.Bundles.{books_per_pair, client_side, new_client_side, phase_holdings, stamp_accounts, stamp_holdings, Covers, HoldsGrant};
+ghost use Rattle.dmc_ledger.specs.Moves.{after_issue, books_after_opening, new_tills, tills_in, with_more, without_grant, AreOf, AreSamePhase};
 ghost use Rattle.dmc_sharded.specs.BookState.{desk_state, new_desk, desk_at, queue_at};
 ghost use Rattle.dmc_book.specs.BookState.{pass_state};
 ghost use Rattle.dmc_qlock.specs.Calls.{Replied};
 ghost use Rattle.dmc_tag.specs.declared.reply.Reply.TheVariants as replies;
 ghost use Rattle.dmc_types.specs.declared.command.Command.TheVariants as commands;
 ghost use Rattle.dmc_sharded.specs.Arriving.{covered, taken, IsDeskAfterRefusal, IsStampFull, PassAfter};
+ghost use Rattle.dmc_sharded.specs.Responding.{desk_after_response, IsUnitAt};
 ghost use Rattle.dmc_sharded.specs.internal.Opening.{IsOneTill};
 
-use crate::fault::ArriveFault;
+use crate::fault::{ArriveFault, UnitCause};
 use dmc_book::pass::WorkerPass;
 use dmc_index::index::Indexes;
 use dmc_ledger::book::Book;
-use dmc_ledger::bundle::{StampBooks, StampTills};
+use dmc_ledger::bundle::{PhaseTills, StampBooks, StampTills};
 use dmc_ledger::desk::{ClientDesk, ServerDesk, open_pair};
 use dmc_ledger::full::Full;
 use dmc_ledger::mint::Mint;
 use dmc_ledger::setup::Setup;
 use dmc_ledger::stamp::make_stamp;
 use dmc_ledger::till::Till;
+use dmc_ledger::unit::Unit;
 use dmc_qlock::lock::QueueLock;
 use dmc_tag::reply::Tags;
 use dmc_tag::tag::Tag;
+use dmc_types::config::PhaseType;
+use dmc_types::cost::Cost;
 use dmc_types::ids::{ClientId, ServerId, Token};
 use dmc_types::moment::Moment;
 use dmc_types::params::ReqParams;
@@ -173,4 +177,38 @@ impl<S: Setup> ShardDesk<S> {
             Err(fault) => Err(ArriveFault::Queue(fault.cause)),
         }
     }
+
+    /// Takes a grant of a phase with its cost out of a worker's tills.
+    pub(crate) fn take(&mut self, phase: PhaseType, cost: Cost, tills: &mut PhaseTills<S>)
+        requires same_books { AreSamePhase (phase_holdings tills.old) (tills_in phase (desk_state self.old).side.held) }
+        requires holds { HoldsGrant (phase_holdings tills.old) cost }
+        ensures desk { desk_state self.new ≡ desk_after_response phase cost (desk_state self.old) }
+        ensures tills { phase_holdings tills.new ≡ without_grant cost (phase_holdings tills.old) }
+    {
+        self.side.held.take(phase, cost, tills);
+    }
+}
+
+/// The place of the desk of a unit's shard, if the unit is of this client, and the tills are of its grants there in its phase.
+pub(crate) fn find_grants<S: Setup>(
+    desks: &[ShardDesk<S>],
+    client: ClientId,
+    unit: &Unit,
+    tills: &PhaseTills<S>,
+) -> Result<usize, UnitCause>
+    ensures place { IfOk result (λ i. i ≡ unit.now.server) }
+    ensures within { IfOk result (λ i. unit.now.server < length desks.now) }
+    ensures its { IfOk result (λ i. IsUnitAt client.0 (desk_at (map desk_state desks.now) unit.now.server) unit.now (phase_holdings tills.now)) }
+    ensures no_server { IsErrOf result UnitCause.NoServer ↔ (length desks.now ≤ unit.now.server) }
+    ensures stranger { IsErrOf result UnitCause.Stranger ↔ ((unit.now.server < length desks.now)
+        × (IsUnitAt client.0 (desk_at (map desk_state desks.now) unit.now.server) unit.now (phase_holdings tills.now) → ⊥)) }
+{
+    let place = unit.server().0 as usize;
+    let Some(desk) = desks.get(place) else {
+        return Err(UnitCause::NoServer);
+    };
+    if unit.client() != client || !desk.side.held.are_of_phase(unit.phase(), tills) {
+        return Err(UnitCause::Stranger);
+    }
+    Ok(place)
 }

@@ -1,5 +1,6 @@
-//! Why a request did not come in at a shard.
+//! Why a request did not come in at a shard, or a response was not taken.
 use dmc_book::fault::SubmitCause;
+use dmc_ledger::unit::Unit;
 use dmc_tracker::tracker::TrackFault;
 use thiserror::Error;
 
@@ -30,4 +31,22 @@ impl From<TrackFault> for ArriveFault {
             TrackFault::TrackFull => ArriveFault::TrackFull,
         }
     }
+}
+
+/// Why a response is not taken.
+#[derive(Clone, Copy, Debug, PartialEq, Eq, Error)]
+pub enum UnitCause {
+    /// There is no such shard.
+    #[error("there is no such shard")]
+    NoServer,
+    /// The unit is another client's, or the tills are not of this client's grants at its shard in its phase.
+    #[error("the grant is another client's, shard's or phase's")]
+    Stranger,
+}
+
+/// A response that was not taken, with its unit, which may be responded with again. Nothing has changed.
+#[derive(Drop)]
+pub struct UnitFault {
+    pub unit: Unit,
+    pub cause: UnitCause,
 }

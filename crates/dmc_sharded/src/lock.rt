@@ -1,20 +1,25 @@
 //! A client's book behind its lock.
-ghost use Rattle.std.specs.Prelude.{◌≡◌, ◌≢◌, IfOk, IfErr, IfSome, OnOk};
+ghost use Rattle.std.specs.Prelude.{◌≡◌, ◌≢◌, IfOk, IfErr, IfSome, OnErr, OnOk};
 ghost use Rattle.dmc_types.specs.Values.{Params};
 ghost use Rattle.dmc_tag.specs.declared.reply.Reply.TheVariants as replies;
 ghost use Rattle.dmc_types.specs.declared.command.Command.TheVariants as commands;
 ghost use Rattle.dmc_tracker.specs.TrackerList.{plus};
+ghost use Rattle.dmc_ledger.specs.Bundles.{phase_holdings, HoldsGrant};
+ghost use Rattle.dmc_ledger.specs.Moves.{without_grant};
 ghost use Rattle.dmc_book.specs.BookState.{pass_state};
 ghost use Rattle.dmc_qlock.specs.Calls.{Replied};
 ghost use Rattle.dmc_sharded.specs.Arriving.{IsStampFor, PassAfter};
 
 use crate::book::ArrivalBook;
-use crate::fault::ArriveFault;
+use crate::fault::{ArriveFault, UnitFault};
 use dmc_book::pass::WorkerPass;
 use dmc_index::index::Indexes;
+use dmc_ledger::bundle::PhaseTills;
 use dmc_ledger::setup::Setup;
+use dmc_ledger::unit::Unit;
 use dmc_qlock::lock::QueueLock;
 use dmc_shards::status::ShardStatus;
+use dmc_shared::pad::{CACHE_PAD, CachePad};
 use dmc_tag::reply::Tags;
 use dmc_tag::tag::Tag;
 use dmc_tracker::counts::Counts;
@@ -38,6 +43,8 @@ pub struct ArrivalStatus {
 pub struct ArrivalLock<S: Setup> {
     client: ClientId,
     guarded: Mutex<ArrivalBook<S>>,
+    // Between this lock and what lies beside it.
+    apart: CachePad,
 }
 
 impl<S: Setup> Model for ArrivalLock<S> {
@@ -56,12 +63,13 @@ impl<S: Setup> ArrivalLock<S> {
         ArrivalLock {
             client: book.client(),
             guarded: Mutex::new(book),
+            apart: CACHE_PAD,
         }
     }
 
     /// The book, once no thread shares the lock. `laws::book_is_consistent` says what holds of it.
     pub fn into_book(self) -> ArrivalBook<S> {
-        let ArrivalLock { client: _, guarded } = self;
+        let ArrivalLock { guarded, .. } = self;
         guarded.into_inner()
     }
 
@@ -97,6 +105,26 @@ impl<S: Setup> ArrivalLock<S> {
         ensures { result ≢ Err TrackFault.TrackFull }
     {
         self.guarded.lock(rt).skip(shard)
+    }
+
+    /// The response to a unit's grant leaves for the client: takes the grant from the worker's tills, as the book does. A refusal hands
+    /// the unit back.
+    pub fn respond<R: Wait>(
+        &self,
+        rt: &R,
+        unit: Unit,
+        tills: &mut PhaseTills<S>,
+    ) -> Result<(), UnitFault>
+        requires { HoldsGrant (phase_holdings tills.old) unit.cost }
+        ensures tills { OnOk result (phase_holdings tills.new ≡ without_grant unit.cost (phase_holdings tills.old)) }
+        ensures kept { OnErr result (phase_holdings tills.new ≡ phase_holdings tills.old) }
+        ensures handed_back { IfErr result (λ fault. fault.unit ≡ unit) }
+    {
+        let taken = self.guarded.lock(rt).respond_to(&unit, tills);
+        match taken {
+            Ok(()) => Ok(()),
+            Err(cause) => Err(UnitFault { unit, cause }),
+        }
     }
 
     /// What came in, and what of it was sent to a shard, skipped there and is pending, or `None` if there is no such shard.

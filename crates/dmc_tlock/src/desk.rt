@@ -2,7 +2,7 @@
 ghost use Rattle.std.specs.Prelude.{◌≡◌, ◌+◌, ◌-◌, ◌<◌, ◌≤◌, ◌^◌, ◌↔◌, length, map, IsTrue, IfOk, IsErrOf};
 ghost use Rattle.dmc_ledger.specs.Accounts.{total_of};
 ghost use Rattle.dmc_ledger.specs.Bundles.{HoldsGrant, phase_holdings, stamp_holdings, stamp_accounts, server_side};
-ghost use Rattle.dmc_ledger.specs.Moves.{AreOf, AreSamePhase, AreWithin, tills_after_stamp, tills_in, with_grant, without_grant};
+ghost use Rattle.dmc_ledger.specs.Moves.{AreOf, AreSamePhase, AreWithin, tills_after_stamp, tills_in, without_grant};
 ghost use Rattle.dmc_tlock.specs.BookState.{desk_at};
 ghost use Rattle.dmc_tlock.specs.Entries.{IsUnitAt, side_after_stamp, side_after_response};
 
@@ -10,7 +10,6 @@ use crate::fault::TillFault;
 use dmc_ledger::bundle::{PhaseTills, StampBooks, StampTills};
 use dmc_ledger::desk::ServerDesk;
 use dmc_ledger::setup::Setup;
-use dmc_ledger::till::shift_till;
 use dmc_ledger::unit::Unit;
 use dmc_types::config::PhaseType;
 use dmc_types::cost::Cost;
@@ -68,27 +67,10 @@ pub(crate) fn find_grants<S: Setup>(
     let Some(desk) = desks.get(index) else {
         return Err(TillFault::NoServer);
     };
-    if unit.client() != client || !are_same(tills, held_in(desk, unit.phase())) {
+    if unit.client() != client || !desk.held.are_of_phase(unit.phase(), tills) {
         return Err(TillFault::Stranger);
     }
     Ok(index)
-}
-
-/// The held tills of a desk in a phase.
-fn held_in<S: Setup>(desk: &ServerDesk<S>, phase: PhaseType) -> &PhaseTills<S>
-    ensures { phase_holdings result.now ≡ tills_in phase (server_side desk.now).held }
-{
-    match phase {
-        PhaseType::Reservation => &desk.held.reservation,
-        PhaseType::Priority => &desk.held.priority,
-    }
-}
-
-/// Whether two bundles of tills are of the same books.
-fn are_same<S: Setup>(tills: &PhaseTills<S>, other: &PhaseTills<S>) -> bool
-    ensures { IsTrue result ↔ AreSamePhase (phase_holdings tills.now) (phase_holdings other.now) }
-{
-    tills.grants.number() == other.grants.number() && tills.cost.number() == other.cost.number()
 }
 
 /// Counts a stamp in the books of a desk, and puts it into the tills.
@@ -129,21 +111,7 @@ pub(crate) fn take_unit<S: Setup>(
     ensures desk { server_side desk.new ≡ side_after_response phase cost (server_side desk.old) }
     ensures tills { phase_holdings tills.new ≡ without_grant cost (phase_holdings tills.old) }
 {
-    match phase {
-        PhaseType::Reservation => shift_grant(tills, &mut desk.held.reservation, cost),
-        PhaseType::Priority => shift_grant(tills, &mut desk.held.priority, cost),
-    }
-}
-
-/// Moves a grant with its cost from tills to others of the same books.
-fn shift_grant<S: Setup>(from: &mut PhaseTills<S>, to: &mut PhaseTills<S>, cost: Cost)
-    requires same_books { AreSamePhase (phase_holdings from.old) (phase_holdings to.old) }
-    requires holds { HoldsGrant (phase_holdings from.old) cost }
-    ensures from { phase_holdings from.new ≡ without_grant cost (phase_holdings from.old) }
-    ensures to { phase_holdings to.new ≡ with_grant cost (phase_holdings to.old) }
-{
-    shift_till(&mut from.grants, &mut to.grants, 1);
-    shift_till(&mut from.cost, &mut to.cost, u64::from(cost.units()));
+    desk.held.take(phase, cost, tills);
 }
 
 /// Changes nothing, and shows that the tills hold no more than their books do.

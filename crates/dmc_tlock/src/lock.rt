@@ -13,6 +13,7 @@ use dmc_ledger::bundle::{PhaseTills, StampTills};
 use dmc_ledger::setup::Setup;
 use dmc_ledger::stamp::{Stamp, make_stamp};
 use dmc_ledger::unit::Unit;
+use dmc_shared::pad::{CACHE_PAD, CachePad};
 use dmc_shared::witness::{Lasting, NoWitness, ReleaseWitness, Witness};
 use dmc_types::cost::Cost;
 use dmc_types::ids::{ClientId, ServerId};
@@ -87,6 +88,8 @@ impl<S: Setup, W: ReleaseWitness<TrackerBook<S>>> Guarded<TrackerBook<S>, W> {
 pub struct LockedTracker<B: Lasting, W: Witness<B>> {
     client: ClientId,
     guarded: Mutex<Guarded<B, W>>,
+    // Between this lock and what lies beside it.
+    apart: CachePad,
 }
 
 /// A tracker book that threads share, without a witness.
@@ -124,6 +127,7 @@ impl<S: Setup, W: Witness<TrackerBook<S>>> LockedTracker<TrackerBook<S>, W> {
         LockedTracker {
             client: book.client(),
             guarded: Mutex::new(Guarded { book, witness }),
+            apart: CACHE_PAD,
         }
     }
 
@@ -203,7 +207,7 @@ impl<B: Lasting, W: Witness<B>> LockedTracker<B, W> {
     pub fn into_parts(self) -> (B, W)
         ensures { W.holds result.1 result.0 }
     {
-        let LockedTracker { client: _, guarded } = self;
+        let LockedTracker { guarded, .. } = self;
         let Guarded { book, witness } = guarded.into_inner();
         (book, witness)
     }

@@ -1,3 +1,4 @@
 pub mod CostLemmas
+pub mod IgnoredLemmas
 pub mod TableLemmas
 pub mod TextLemmas

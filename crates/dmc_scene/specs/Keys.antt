@@ -1,6 +1,6 @@
 -- The value of a key of a table. The checks of a key are, in order: it is missing, its value is of another kind, its value is out
 -- of its limits.
-use Rattle.std.specs.Prelude.{ℕ, ◌&&◌, nat_le, ℤ, pos, negsuc, Bool, if◌then◌else◌, List, Option, Some, None, Result, Ok, codes}
+use Rattle.std.specs.Prelude.{ℕ, ◌&&◌, nat_le, ℤ, pos, negsuc, Bool, if◌then◌else◌, List, Option, Some, None, Result, Ok, Err, codes}
 use Rattle.std.specs.Option.{ok_or, unwrap_or}
 use Rattle.dmc_tag.specs.Outcome.{◌>>=◌}
 use Rattle.toml.specs.Data.{Data, Members, get_member}
@@ -35,8 +35,8 @@ name_of key.Costs = codes "costs"
 -- what a key's value represents: by its kind, and then by its limits
 abbrev pub meaning : {A B : Type 0} → (Data → Option A) → (A → Option B) → Key → Data → Result B SceneFault
 meaning kind value key held = do
-  found ← ok_or (kind held) (Kind key)
-  ok_or (value found) (Value key)
+  found ← ok_or (kind held) (Kind key None)
+  ok_or (value found) (Value key None)
 
 -- the values that a key may have
 abbrev pub optional_meaning : {A B : Type 0} → (Data → Option A) → (A → Option B) → Key → Option Data → Result (Option B) SceneFault
@@ -45,7 +45,7 @@ optional_meaning kind value key (Some held) = meaning kind value key held >>= λ
 
 -- a key that must be there
 abbrev pub required : {A B : Type 0} → (Data → Option A) → (A → Option B) → Key → Members → Result B SceneFault
-required kind value key table = ok_or (get_member (name_of key) table) (Missing key) >>= meaning kind value key
+required kind value key table = ok_or (get_member (name_of key) table) (Missing key None) >>= meaning kind value key
 
 -- a key that may be absent
 abbrev pub optional : {A B : Type 0} → (Data → Option A) → (A → Option B) → Key → Members → Result (Option B) SceneFault
@@ -64,3 +64,15 @@ number least greatest (negsuc n) = None
 abbrev pub passing : {A : Type 0} → (A → Bool) → Option A → Option A
 passing test None = None
 passing test (Some x) = if test x then Some x else None
+
+-- a fault of a key, in the table of the client at this place
+abbrev pub fault_of_client : ℕ → SceneFault → SceneFault
+fault_of_client place (Missing key client) = Missing key (Some place)
+fault_of_client place (Kind key client) = Kind key (Some place)
+fault_of_client place (Value key client) = Value key (Some place)
+fault_of_client place fault = fault
+
+-- what is read from that table
+abbrev pub read_of_client : {A : Type 0} → ℕ → Result A SceneFault → Result A SceneFault
+read_of_client place (Ok x) = Ok x
+read_of_client place (Err fault) = Err (fault_of_client place fault)

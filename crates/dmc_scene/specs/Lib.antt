@@ -5,5 +5,9 @@ pub mod SceneValue
 pub mod Keys
 -- The scene of a table, or the first fault, in the order of the keys.
 pub mod Reading
+-- The keys of a text that are ignored, since no scene has them.
+pub mod Ignored
+-- Parts of worked examples.
+pub mod Examples
 -- What only contracts of private functions and proofs cite.
 pub mod internal

@@ -1,5 +1,5 @@
 -- The scene of a table, or the first fault, in the order of the keys.
-use Rattle.std.specs.Prelude.{ℕ, ◌^◌, ◌-◌, ◌==◌, ◌&&◌, nat_le, not, ℤ, Bool, true, is_some, if◌then◌else◌, List, [], ◌∷◌, ◌++◌, length, Option, Some, None, Result, Ok, codes}
+use Rattle.std.specs.Prelude.{ℕ, ◌+◌, ◌^◌, ◌-◌, ◌==◌, ◌&&◌, nat_le, not, ℤ, Bool, true, is_some, if◌then◌else◌, List, [], ◌∷◌, ◌++◌, length, Option, Some, None, Result, Ok, codes}
 use Rattle.std.specs.List.{list_any}
 use Rattle.std.specs.Option.{ok_or, option_and_then, option_map, option_to_list}
 use Rattle.std.specs.Str.{bytes_eq, is_utf8}
@@ -21,7 +21,7 @@ use Rattle.dmc_scene.specs.declared.fault.SceneFault.TheVariants.{Text}
 use Rattle.dmc_scene.specs.declared.scene.Ages.{Ages}
 use Rattle.dmc_scene.specs.declared.scene.Sizes.{Sizes}
 use Rattle.dmc_scene.specs.SceneValue.{SceneValue, ClientValue, has_spacing, max_costs, max_scene_cost}
-use Rattle.dmc_scene.specs.Keys.{required, optional, defaulted, number, passing}
+use Rattle.dmc_scene.specs.Keys.{required, optional, defaulted, number, passing, read_of_client}
 
 abbrev pub tags_named : List ℕ → Option TagKind
 tags_named text =
@@ -95,8 +95,8 @@ abbrev pub some_clients : List Members → Option (List Members)
 some_clients tables = if nat_le 1 (length tables) && nat_le (length tables) max_scene_clients then Some tables else None
 
 -- the client of a table, after those before it
-abbrev pub client_of : TagKind → ℕ → List ClientValue → Members → Result ClientValue SceneFault
-client_of tags hz before table = do
+abbrev pub client_in : TagKind → ℕ → List ClientValue → Members → Result ClientValue SceneFault
+client_in tags hz before table = do
   id ← required as_integer (id_beside before) key.Id table
   reservation ← optional as_integer (rate tags hz) key.Reservation table
   weight ← required as_integer (rate tags hz) key.Weight table
@@ -111,6 +111,10 @@ client_of tags hz before table = do
     window = window;
     costs = costs;
   })
+
+-- the same, and a fault says the place of the table, counted from 1
+abbrev pub client_of : TagKind → ℕ → List ClientValue → Members → Result ClientValue SceneFault
+client_of tags hz before table = read_of_client (length before + 1) (client_in tags hz before table)
 
 -- the clients before, and the clients of the tables
 abbrev pub clients_of : TagKind → ℕ → List ClientValue → List Members → Result (List ClientValue) SceneFault

@@ -7,7 +7,7 @@ ghost use Rattle.toml.specs.View.{view, table_view};
 ghost use Rattle.dmc_scene.specs.SceneValue.{has_spacing, HasSpacing, AreSpaced, cost_at, max_scene_cost};
 ghost use Rattle.dmc_scene.specs.internal.SceneValue.{IsFresh};
 ghost use Rattle.dmc_scene.specs.Keys.{meaning, required, optional};
-ghost use Rattle.dmc_scene.specs.Reading.{rate, id_beside, client_of};
+ghost use Rattle.dmc_scene.specs.Reading.{rate, id_beside, client_in, client_of};
 
 use crate::costs::{CostList, read_costs};
 use crate::fault::SceneFault;
@@ -131,7 +131,7 @@ fn rate_in(value: &Value, key: Key, tags: TagKind, hz: u32) -> Result<u32, Scene
     ensures some { IfOk result (λ n. 0 < n) }
     ensures spaced { IfOk result (HasSpacing tags hz) }
 {
-    rate_of(integer_of(value, key)?, tags, hz).ok_or(SceneFault::Value(key))
+    rate_of(integer_of(value, key)?, tags, hz).ok_or(SceneFault::Value(key, None))
 }
 
 /// The rate at a key.
@@ -178,10 +178,10 @@ fn id_beside(table: &Table, before: &[SceneClient]) -> Result<u32, SceneFault>
     ensures fresh { IfOk result (IsFresh before.now) }
 {
     let number = integer_of(required(table, Key::Id)?, Key::Id)?;
-    id_of(number, before).ok_or(SceneFault::Value(Key::Id))
+    id_of(number, before).ok_or(SceneFault::Value(Key::Id, None))
 }
 
-/// The client of a table, after the clients before it.
+/// The client of a table, after the clients before it. A fault says its place.
 pub(crate) fn read_client(
     table: &Table,
     tags: TagKind,
@@ -189,6 +189,23 @@ pub(crate) fn read_client(
     before: &[SceneClient],
 ) -> Result<SceneClient, SceneFault>
     ensures value { result ≡ client_of tags hz before.now (table_view table.now) }
+    ensures fresh { IfOk result (λ client. IsFresh before.now client.id.0) }
+    ensures spaced { IfOk result (λ client. AreSpaced tags hz client.info) }
+{
+    match client_in(table, tags, hz, before) {
+        Ok(client) => Ok(client),
+        Err(fault) => Err(fault.of_client(before.len() as u64 + 1)),
+    }
+}
+
+/// The client of a table, after the clients before it.
+fn client_in(
+    table: &Table,
+    tags: TagKind,
+    hz: u32,
+    before: &[SceneClient],
+) -> Result<SceneClient, SceneFault>
+    ensures value { result ≡ client_in tags hz before.now (table_view table.now) }
     ensures fresh { IfOk result (λ client. IsFresh before.now client.id.0) }
     ensures spaced { IfOk result (λ client. AreSpaced tags hz client.info) }
 {

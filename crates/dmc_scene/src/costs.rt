@@ -1,5 +1,5 @@
 //! The costs of a client's requests.
-ghost use Rattle.std.specs.Prelude.{◌≡◌, ◌<◌, ◌≤◌, IfSome, Some, is_some};
+ghost use Rattle.std.specs.Prelude.{◌≡◌, ◌<◌, ◌≤◌, IfSome, None, Some, is_some};
 ghost use Rattle.std.specs.Option.{ok_or, option_and_then};
 ghost use Rattle.std.specs.Result.{result_map_both};
 ghost use Rattle.toml.specs.Data.{as_integer};
@@ -92,16 +92,16 @@ fn are_integers(values: &[Value]) -> bool
 /// The whole numbers in a key's value, which is a list of them.
 fn integers_of(value: &Value) -> Result<&[Value], SceneFault>
     ensures { result_map_both (λ values. each_as as_integer (items_view values.now)) (λ fault. fault) result
-        ≡ result_map_both (λ list. Some list) (λ fault. fault) (ok_or (as_integers (view value.now)) (Kind Key.Costs)) }
+        ≡ result_map_both (λ list. Some list) (λ fault. fault) (ok_or (as_integers (view value.now)) (Kind Key.Costs None)) }
 {
     let values = value
         .as_array()
-        .ok_or(SceneFault::Kind(Key::Costs))?
+        .ok_or(SceneFault::Kind(Key::Costs, None))?
         .as_slice();
     if are_integers(values) {
         Ok(values)
     } else {
-        Err(SceneFault::Kind(Key::Costs))
+        Err(SceneFault::Kind(Key::Costs, None))
     }
 }
 
@@ -109,7 +109,7 @@ fn integers_of(value: &Value) -> Result<&[Value], SceneFault>
 fn costs_in(value: &Value) -> Result<CostList, SceneFault>
     ensures { result ≡ meaning as_integers some_costs Key.Costs (view value.now) }
 {
-    CostList::of(integers_of(value)?).ok_or(SceneFault::Value(Key::Costs))
+    CostList::of(integers_of(value)?).ok_or(SceneFault::Value(Key::Costs, None))
 }
 
 /// The costs at their key, if it is there.

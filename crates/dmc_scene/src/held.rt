@@ -1,5 +1,5 @@
 //! The values of a table's keys.
-ghost use Rattle.std.specs.Prelude.{◌≡◌, ◌<◌, ◌≤◌, Result, IfOk, IfSome, Some};
+ghost use Rattle.std.specs.Prelude.{◌≡◌, ◌<◌, ◌≤◌, Result, IfOk, IfSome, None, Some};
 ghost use Rattle.std.specs.Option.{option_map, ok_or};
 ghost use Rattle.std.specs.Result.{result_map_both};
 ghost use Rattle.toml.specs.Data.{as_integer, as_str, get_member};
@@ -20,23 +20,23 @@ pub fn value_at<'a>(table: &'a Table, key: Key) -> Option<&'a Value>
 
 /// The value of a key that must be there.
 pub fn required<'a>(table: &'a Table, key: Key) -> Result<&'a Value, SceneFault>
-    ensures { result_map_both (λ v. view v.now) (λ fault. fault) result ≡ ok_or (get_member (name_of key) (table_view table.now)) (Missing key) }
+    ensures { result_map_both (λ v. view v.now) (λ fault. fault) result ≡ ok_or (get_member (name_of key) (table_view table.now)) (Missing key None) }
 {
-    value_at(table, key).ok_or(SceneFault::Missing(key))
+    value_at(table, key).ok_or(SceneFault::Missing(key, None))
 }
 
 /// The whole number in a key's value.
 pub fn integer_of(value: &Value, key: Key) -> Result<i64, SceneFault>
-    ensures { result ≡ ok_or (as_integer (view value.now)) (Kind key) }
+    ensures { result ≡ ok_or (as_integer (view value.now)) (Kind key None) }
 {
-    value.as_integer().ok_or(SceneFault::Kind(key))
+    value.as_integer().ok_or(SceneFault::Kind(key, None))
 }
 
 /// The text in a key's value.
 pub fn text_of<'a>(value: &'a Value, key: Key) -> Result<&'a str, SceneFault>
-    ensures { result_map_both (λ s. s.now) (λ fault. fault) result ≡ ok_or (as_str (view value.now)) (Kind key) }
+    ensures { result_map_both (λ s. s.now) (λ fault. fault) result ≡ ok_or (as_str (view value.now)) (Kind key None) }
 {
-    value.as_str().ok_or(SceneFault::Kind(key))
+    value.as_str().ok_or(SceneFault::Kind(key, None))
 }
 
 /// The number, if it is between the two bounds.
@@ -57,7 +57,7 @@ pub fn integer_in(value: &Value, key: Key, least: u64, greatest: u64) -> Result<
     ensures least { IfOk result (λ n. least ≤ n) }
     ensures greatest { IfOk result (λ n. n ≤ greatest) }
 {
-    number(integer_of(value, key)?, least, greatest).ok_or(SceneFault::Value(key))
+    number(integer_of(value, key)?, least, greatest).ok_or(SceneFault::Value(key, None))
 }
 
 /// The whole number at a key.

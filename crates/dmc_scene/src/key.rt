@@ -1,5 +1,6 @@
 //! The keys of a scene.
-ghost use Rattle.std.specs.Prelude.{◌≡◌};
+ghost use Rattle.std.specs.Prelude.{◌≡◌, ◌||◌, true};
+ghost use Rattle.dmc_scene.specs.Ignored.{client_keys, has_name, scene_keys};
 ghost use Rattle.dmc_scene.specs.Keys.{name_of};
 
 /// A key of a scene, in the order in which they are checked. The last seven are keys of each client's table.
@@ -47,10 +48,40 @@ pub enum Key {
     Costs,
 }
 
+/// The keys of a scene's own table.
+pub(crate) const SCENE_KEYS: [Key; 13] = [
+    Key::Hz,
+    Key::IdleAge,
+    Key::EraseAge,
+    Key::Tags,
+    Key::Servers,
+    Key::Workers,
+    Key::Step,
+    Key::Seed,
+    Key::MaxPulls,
+    Key::Counting,
+    Key::AtLimit,
+    Key::Shares,
+    Key::Client,
+];
+
+/// The keys of a client's table.
+pub(crate) const CLIENT_KEYS: [Key; 7] = [
+    Key::Id,
+    Key::Reservation,
+    Key::Weight,
+    Key::Limit,
+    Key::Requests,
+    Key::Window,
+    Key::Costs,
+];
+
 impl Key {
     /// The name of the key in a scene.
     pub fn name(&self) -> &'static str
-        ensures { result.now ≡ name_of self.now }
+        ensures value { result.now ≡ name_of self.now }
+        // so none of them is ignored
+        ensures listed { (has_name scene_keys result.now || has_name client_keys result.now) ≡ true }
     {
         match self {
             Key::Hz => "hz",

@@ -3,8 +3,11 @@
 
 pub mod client;
 pub mod costs;
+pub mod examples;
 pub mod fault;
 mod held;
+pub mod ignored;
 pub mod key;
 mod modes;
 pub mod scene;
+mod text;

@@ -61,7 +61,7 @@ pub fn read_tags(table: &Table) -> Result<TagKind, SceneFault>
     ensures { result ≡ required as_str tags_named Key.Tags (table_view table.now) }
 {
     let text = text_of(required(table, Key::Tags)?, Key::Tags)?;
-    tags_named(text).ok_or(SceneFault::Value(Key::Tags))
+    tags_named(text).ok_or(SceneFault::Value(Key::Tags, None))
 }
 
 /// The counting form at its key, by default `All`.
@@ -72,6 +72,7 @@ pub fn read_counting(table: &Table) -> Result<Counting, SceneFault>
         None => Ok(Counting::All),
         Some(value) => counting_named(text_of(value, Key::Counting)?).ok_or(SceneFault::Value(
             Key::Counting,
+            None,
         )),
     }
 }
@@ -85,6 +86,7 @@ pub fn read_at_limit(table: &Table) -> Result<AtLimit, SceneFault>
         None => Ok(AtLimit::Wait),
         Some(value) => at_limit_named(text_of(value, Key::AtLimit)?).ok_or(SceneFault::Value(
             Key::AtLimit,
+            None,
         )),
     }
 }
@@ -97,6 +99,7 @@ pub fn read_shares(table: &Table) -> Result<Shares, SceneFault>
         None => Ok(Shares::Clock),
         Some(value) => shares_named(text_of(value, Key::Shares)?).ok_or(SceneFault::Value(
             Key::Shares,
+            None,
         )),
     }
 }

@@ -4,7 +4,6 @@ ghost use Rattle.std.specs.Option.{ok_or};
 ghost use Rattle.std.specs.Result.{result_map_both};
 ghost use Rattle.dmc_types.specs.Limits.{max_hz, max_step, limit_of_pulls, max_scene_bytes, max_scene_clients, max_server_workers, max_servers};
 ghost use Rattle.toml.specs.Data.{as_array};
-ghost use Rattle.toml.specs.Parse.{parse_document};
 ghost use Rattle.toml.specs.View.{view, items_view, table_view};
 ghost use Rattle.dmc_scene.specs.declared.fault.SceneFault.TheVariants.{Kind, Memory};
 ghost use Rattle.dmc_types.specs.Values.{IsSetting, threshold_of};
@@ -18,14 +17,12 @@ use crate::fault::SceneFault;
 use crate::held::{integer, integer_or, required};
 use crate::key::Key;
 use crate::modes::{read_at_limit, read_counting, read_shares, read_tags};
+use crate::text::table_of;
 use dmc_types::config::{AtLimit, Counting, QueueConfig, Shares, TagKind};
 use dmc_types::limits::{MAX_AGE, MAX_HZ, MAX_SERVERS};
 use std::alloc::Global;
 use std::marker::Model;
 use toml::{Table, Value};
-
-/// The greatest length of a scene in bytes.
-const MAX_SCENE_BYTES: usize = 1 << 20;
 
 /// The greatest number of workers of a server.
 const MAX_SERVER_WORKERS: u64 = 16;
@@ -167,33 +164,12 @@ impl Scene {
 }
 
 /// The scene of a text, or the first fault: `Text` or `Memory` while it is parsed, then the keys in the order of `Key`
-/// (extension). Keys that a scene does not have are ignored.
+/// (extension). Keys that a scene does not have are ignored: `ignored_keys` of `ignored` lists them.
 pub fn read_scene(alloc: Global, text: &[u8]) -> Result<Scene, SceneFault>
     ensures read { result ≢ Err SceneFault.Memory → result ≡ scene_in text.now }
-    // nothing is allocated before the text is known to be short enough and UTF-8
     ensures memory { result ≡ Err SceneFault.Memory → (length text.now ≤ max_scene_bytes) × IsUtf8 text.now }
 {
-    if text.len() > MAX_SCENE_BYTES {
-        return Err(SceneFault::Text);
-    }
-    match std::str::from_utf8(text) {
-        Ok(text) => read_table(alloc, &table_in(alloc, text)?),
-        Err(_) => Err(SceneFault::Text),
-    }
-}
-
-/// The table of a text.
-fn table_in(alloc: Global, text: &str) -> Result<Table, SceneFault>
-    ensures ok { IfOk result (λ table. parse_document text.now ≡ Some (table_view table)) }
-    ensures fault { IfErr result (λ fault. fault ≢ SceneFault.Memory → (fault ≡ SceneFault.Text) × (parse_document text.now ≡ None)) }
-{
-    toml::table_from_str(alloc, text).map_err(|e| {
-        if e.is_memory() {
-            SceneFault::Memory
-        } else {
-            SceneFault::Text
-        }
-    })
+    read_table(alloc, &table_of(alloc, text)?)
 }
 
 /// The scene of a table, or the first fault.
@@ -292,17 +268,17 @@ fn are_tables(values: &[Value]) -> bool
 /// The tables in a key's value.
 fn tables_of(value: &Value) -> Result<&[Value], SceneFault>
     ensures value { result_map_both (λ values. tables_in (items_view values.now)) (λ fault. fault) result
-        ≡ ok_or (as_tables (view value.now)) (Kind Key.Client) }
+        ≡ ok_or (as_tables (view value.now)) (Kind Key.Client None) }
     ensures len { IfOk result (λ values. length (tables_in (items_view values.now)) ≡ length values.now) }
 {
     let values = value
         .as_array()
-        .ok_or(SceneFault::Kind(Key::Client))?
+        .ok_or(SceneFault::Kind(Key::Client, None))?
         .as_slice();
     if are_tables(values) {
         Ok(values)
     } else {
-        Err(SceneFault::Kind(Key::Client))
+        Err(SceneFault::Kind(Key::Client, None))
     }
 }
 
@@ -316,7 +292,7 @@ fn client_tables(table: &Table) -> Result<&[Value], SceneFault>
 {
     let values = tables_of(required(table, Key::Client)?)?;
     if values.is_empty() || values.len() > MAX_SCENE_CLIENTS {
-        return Err(SceneFault::Value(Key::Client));
+        return Err(SceneFault::Value(Key::Client, None));
     }
     Ok(values)
 }

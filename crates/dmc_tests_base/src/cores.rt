@@ -1,4 +1,4 @@
-//! The worked examples of the cluster core, and its refusals.
+//! The worked examples of the cluster core.
 use crate::failures::Failures;
 use crate::same::assert_same;
 use dmc_core::cluster_core::ClusterCore;
@@ -51,7 +51,7 @@ pub fn open(alloc: Global, scene: &str, client: &str) -> Result<Core, Fail> {
 }
 
 // Client 1 with a reservation of 10, and client 2 with the weight 2.
-fn two_clients(alloc: Global) -> Result<Core, Fail> {
+pub fn two_clients(alloc: Global) -> Result<Core, Fail> {
     open(
         alloc,
         "servers = 1",
@@ -123,7 +123,7 @@ pub fn respond(client: ClientId, server: ServerId, phase: PhaseType) -> CoreEven
     respond_of_cost(client, server, phase, Cost::ONE)
 }
 
-fn update(server: ServerId, client: ClientId, info: ClientInfo) -> CoreEvent {
+pub fn update(server: ServerId, client: ClientId, info: ClientInfo) -> CoreEvent {
     CoreEvent::Update {
         server,
         client,
@@ -132,7 +132,7 @@ fn update(server: ServerId, client: ClientId, info: ClientInfo) -> CoreEvent {
     }
 }
 
-fn remove(server: ServerId, client: ClientId) -> CoreEvent {
+pub fn remove(server: ServerId, client: ClientId) -> CoreEvent {
     CoreEvent::Remove { server, client }
 }
 
@@ -370,48 +370,5 @@ fn messages_in_order(rt: HostRuntime) -> Result<(), Fail> {
     replies(&rt, &mut core, clean(ZERO, 10), cleaned);
     refuses_unknown(&rt, &mut core, arrive(ONE, ZERO, 10));
     refuses_unknown(&rt, &mut core, arrive(ONE, ZERO, 10));
-    end(core)
-}
-
-// An update and a removal are commands to the queue, and their refusals are the queue's.
-#[test]
-fn commands_to_a_queue(rt: HostRuntime) -> Result<(), Fail> {
-    let fast = ClientInfo::new(Some(20), 1, None)?;
-    let three = ClientId(3);
-    let mut core = two_clients(rt.alloc())?;
-    replies(&rt, &mut core, update(ZERO, ONE, fast), Reply::Updated);
-    stamps(&rt, &mut core, ONE, ZERO, 1, (0, 0));
-    arrives(&rt, &mut core, 0, (Some(0), 0, 0));
-    replies(&rt, &mut core, remove(ZERO, ONE), Reply::Removed(1));
-    refuses_unknown(&rt, &mut core, remove(ZERO, three));
-    refuses_unknown(&rt, &mut core, update(ZERO, three, fast));
-    end(core)
-}
-
-// The first cause is reported.
-#[test]
-fn unknown_names(rt: HostRuntime) -> Result<(), Fail> {
-    let (three, past) = (ClientId(3), ServerId(1));
-    let phase = PhaseType::Priority;
-    let info = ClientInfo::new(None, 1, None)?;
-    let mut core = two_clients(rt.alloc())?;
-    for event in [
-        stamp(three, past, 1),
-        arrive(three, past, 0),
-        respond(three, past, phase),
-    ] {
-        refuses(&rt, &mut core, event, CoreFault::NoClient);
-    }
-    for event in [
-        stamp(ONE, past, 1),
-        arrive(ONE, past, 0),
-        respond(ONE, past, phase),
-        pull(past, 0),
-        update(past, three, info),
-        remove(past, three),
-        clean(past, 0),
-    ] {
-        refuses(&rt, &mut core, event, CoreFault::NoServer);
-    }
     end(core)
 }

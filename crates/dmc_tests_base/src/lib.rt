@@ -9,6 +9,8 @@ mod core_cancels;
 #[cfg(test)]
 mod core_costs;
 #[cfg(test)]
+mod core_refusals;
+#[cfg(test)]
 mod cores;
 #[cfg(test)]
 mod events;
@@ -22,6 +24,8 @@ mod heads;
 mod heaps;
 #[cfg(test)]
 mod histories;
+#[cfg(test)]
+mod ignored_keys;
 #[cfg(test)]
 mod indexes;
 #[cfg(test)]

@@ -139,7 +139,7 @@ fn blanks_are_refused<R: AllocGlobal + Abort>(rt: &R) -> Result<(), Fail> {
         fault_of(alloc, long.as_slice())?,
         fault_of(alloc, &long.as_slice()[1..])?,
     ];
-    let wanted = [SceneFault::Text, SceneFault::Missing(Key::Hz)];
+    let wanted = [SceneFault::Text, SceneFault::Missing(Key::Hz, None)];
     assert_same(rt, &faults, &wanted.map(Some));
     Ok(())
 }
@@ -158,11 +158,14 @@ fn refuses<R: AllocGlobal + Abort>(
 
 /// A replacement for the clients, and its fault.
 const CLIENTS: [(&str, SceneFault); 5] = [
-    ("client = 5\n", SceneFault::Kind(Key::Client)),
-    ("[client]\nid = 1\n", SceneFault::Kind(Key::Client)),
-    ("client = [{ id = 1 }, 5]\n", SceneFault::Kind(Key::Client)),
-    ("client = []\n", SceneFault::Value(Key::Client)),
-    ("", SceneFault::Missing(Key::Client)),
+    ("client = 5\n", SceneFault::Kind(Key::Client, None)),
+    ("[client]\nid = 1\n", SceneFault::Kind(Key::Client, None)),
+    (
+        "client = [{ id = 1 }, 5]\n",
+        SceneFault::Kind(Key::Client, None),
+    ),
+    ("client = []\n", SceneFault::Value(Key::Client, None)),
+    ("", SceneFault::Missing(Key::Client, None)),
 ];
 
 #[test]
@@ -181,51 +184,63 @@ fn scene_faults(rt: HostRuntime) -> Result<(), Fail> {
 
 /// Changes of the scene, each with the fault that it makes.
 const CHANGES: [(&str, &str, SceneFault); 14] = [
-    ("hz = 1000\n", "", SceneFault::Missing(Key::Hz)),
-    ("hz = 1000", "hz = \"1000\"", SceneFault::Kind(Key::Hz)),
-    ("hz = 1000", "hz = -1", SceneFault::Value(Key::Hz)),
+    ("hz = 1000\n", "", SceneFault::Missing(Key::Hz, None)),
+    (
+        "hz = 1000",
+        "hz = \"1000\"",
+        SceneFault::Kind(Key::Hz, None),
+    ),
+    ("hz = 1000", "hz = -1", SceneFault::Value(Key::Hz, None)),
     (
         "servers = 1",
         "servers = 0",
-        SceneFault::Value(Key::Servers),
+        SceneFault::Value(Key::Servers, None),
     ),
-    ("weight = 1", "weight = 3", SceneFault::Value(Key::Weight)),
-    ("id = 2", "id = 1", SceneFault::Value(Key::Id)),
+    (
+        "weight = 1",
+        "weight = 3",
+        SceneFault::Value(Key::Weight, Some(1)),
+    ),
+    ("id = 2", "id = 1", SceneFault::Value(Key::Id, Some(2))),
     (
         "tags = \"tick\"",
         "tags = \"ticks\"",
-        SceneFault::Value(Key::Tags),
+        SceneFault::Value(Key::Tags, None),
     ),
     (
         "seed = 1",
         "counting = \"none\"",
-        SceneFault::Missing(Key::Seed),
+        SceneFault::Missing(Key::Seed, None),
     ),
     (
         "step",
         "idle_age = 9\nerase_age = 8\nstep",
-        SceneFault::Value(Key::EraseAge),
+        SceneFault::Value(Key::EraseAge, None),
     ),
     (
         "step",
         "at_limit = true\nstep",
-        SceneFault::Kind(Key::AtLimit),
+        SceneFault::Kind(Key::AtLimit, None),
     ),
-    ("step", "shares = 1\nstep", SceneFault::Kind(Key::Shares)),
+    (
+        "step",
+        "shares = 1\nstep",
+        SceneFault::Kind(Key::Shares, None),
+    ),
     (
         "step",
         "shares = \"real\"\nstep",
-        SceneFault::Value(Key::Shares),
+        SceneFault::Value(Key::Shares, None),
     ),
     (
         "window = 1",
         "window = 1025",
-        SceneFault::Value(Key::Window),
+        SceneFault::Value(Key::Window, Some(1)),
     ),
     (
         "window = 1",
         "window = 0\ncosts = 1",
-        SceneFault::Value(Key::Window),
+        SceneFault::Value(Key::Window, Some(1)),
     ),
 ];
 
@@ -265,18 +280,21 @@ const COSTS: [(&str, Option<SceneFault>); 15] = [
     ("[1]", None),
     ("[1024, 1]", None),
     (SIXTEEN, None),
-    (SEVENTEEN, Some(SceneFault::Value(Key::Costs))),
-    ("[]", Some(SceneFault::Value(Key::Costs))),
-    ("[0]", Some(SceneFault::Value(Key::Costs))),
-    ("[-1]", Some(SceneFault::Value(Key::Costs))),
-    ("[1024, 1025]", Some(SceneFault::Value(Key::Costs))),
-    ("1", Some(SceneFault::Kind(Key::Costs))),
-    ("\"1\"", Some(SceneFault::Kind(Key::Costs))),
-    ("[1, \"2\"]", Some(SceneFault::Kind(Key::Costs))),
-    ("[1, 2.0]", Some(SceneFault::Kind(Key::Costs))),
-    ("[[1]]", Some(SceneFault::Kind(Key::Costs))),
-    ("[0, \"2\"]", Some(SceneFault::Kind(Key::Costs))),
-    (SEVENTEEN_AND_A_TEXT, Some(SceneFault::Kind(Key::Costs))),
+    (SEVENTEEN, Some(SceneFault::Value(Key::Costs, Some(1)))),
+    ("[]", Some(SceneFault::Value(Key::Costs, Some(1)))),
+    ("[0]", Some(SceneFault::Value(Key::Costs, Some(1)))),
+    ("[-1]", Some(SceneFault::Value(Key::Costs, Some(1)))),
+    ("[1024, 1025]", Some(SceneFault::Value(Key::Costs, Some(1)))),
+    ("1", Some(SceneFault::Kind(Key::Costs, Some(1)))),
+    ("\"1\"", Some(SceneFault::Kind(Key::Costs, Some(1)))),
+    ("[1, \"2\"]", Some(SceneFault::Kind(Key::Costs, Some(1)))),
+    ("[1, 2.0]", Some(SceneFault::Kind(Key::Costs, Some(1)))),
+    ("[[1]]", Some(SceneFault::Kind(Key::Costs, Some(1)))),
+    ("[0, \"2\"]", Some(SceneFault::Kind(Key::Costs, Some(1)))),
+    (
+        SEVENTEEN_AND_A_TEXT,
+        Some(SceneFault::Kind(Key::Costs, Some(1))),
+    ),
 ];
 
 #[test]

@@ -4,4 +4,4 @@ use Rattle.dmc_scene.proofs.held.value_at.Goals as goal
 pub returns : goal.returns
 returns c =
     let found = table_get c.get.result c.name.result.now c.args.table.now.entries c.get.ensures.value in
-    rw c.name.ensures at found
+    rw c.name.ensures.value at found

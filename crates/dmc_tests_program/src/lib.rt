@@ -16,6 +16,8 @@ mod progress;
 #[cfg(test)]
 mod queues;
 #[cfg(test)]
+mod remarks;
+#[cfg(test)]
 mod replays;
 #[cfg(test)]
 mod run_examples;

@@ -238,14 +238,18 @@ fn fault_texts(rt: HostRuntime) -> Result<(), Fail> {
         (Fault::Write, "dmclock: write", 1),
         (Fault::from(WordsFault::Memory), "dmclock: memory", 1),
         (Fault::SceneText, "dmclock: scene text", 1),
-        (Fault::SceneMissing(Key::Hz), "dmclock: scene missing hz", 1),
         (
-            Fault::SceneKind(Key::Client),
+            Fault::SceneMissing(Key::Id, Some(2)),
+            "dmclock: scene missing id",
+            1,
+        ),
+        (
+            Fault::SceneKind(Key::Client, None),
             "dmclock: scene kind client",
             1,
         ),
         (
-            Fault::SceneValue(Key::MaxPulls),
+            Fault::SceneValue(Key::MaxPulls, None),
             "dmclock: scene value max_pulls",
             1,
         ),

@@ -5,6 +5,8 @@ pub mod SimLemmas
 pub mod NoteLemmas
 pub mod RequestLemmas
 pub mod ExplainLemmas
+pub mod IgnoredLemmas
 pub mod FaultLineLemmas
 pub mod ProgressLemmas
+pub mod RemarkLemmas
 pub mod VerdictRows

@@ -30,9 +30,9 @@ use Rattle.dmc_tool.specs.declared.words.WordsFault.TheVariants as words
 -- a text that is no scene was read without a failure
 no_scene : {R : Type 0} (before after : Watched R) (cause : SceneFault) → IsCalm before after → SceneNoted before after (Err (fault_of_scene cause))
 no_scene before after scene.Text calm = calm
-no_scene before after (scene.Missing key) calm = calm
-no_scene before after (scene.Kind key) calm = calm
-no_scene before after (scene.Value key) calm = calm
+no_scene before after (scene.Missing key client) calm = calm
+no_scene before after (scene.Kind key client) calm = calm
+no_scene before after (scene.Value key client) calm = calm
 no_scene before after scene.Memory calm = calm
 
 pub no_scene_as : {R : Type 0} (before after : Watched R) (cause : SceneFault) (result : Result SceneValue Fault) → IsCalm before after → IsErrAnd result (λ reported. reported ≡ fault_of_scene cause)
@@ -76,9 +76,9 @@ scene_fault r r' before after old fault.Read reads noted = (noted, refl)
 scene_fault r r' before after old fault.Write reads noted = absurd reads
 scene_fault r r' before after old fault.Memory reads noted = (noted, refl)
 scene_fault r r' before after old fault.SceneText reads noted = (noted, refl)
-scene_fault r r' before after old (fault.SceneMissing key) reads noted = (noted, refl)
-scene_fault r r' before after old (fault.SceneKind key) reads noted = (noted, refl)
-scene_fault r r' before after old (fault.SceneValue key) reads noted = (noted, refl)
+scene_fault r r' before after old (fault.SceneMissing key client) reads noted = (noted, refl)
+scene_fault r r' before after old (fault.SceneKind key client) reads noted = (noted, refl)
+scene_fault r r' before after old (fault.SceneValue key client) reads noted = (noted, refl)
 scene_fault r r' before after old fault.Torn reads noted = (noted, refl)
 scene_fault r r' before after old fault.Range reads noted = (noted, refl)
 scene_fault r r' before after old fault.TurnsOut reads noted = (noted, refl)

@@ -10,10 +10,9 @@ use Rattle.dmc_scene.specs.SceneValue.{SceneValue}
 use Rattle.dmc_sim.specs.Reports.{Simulates}
 use Rattle.dmc_sim.specs.declared.report.SimFault.{SimFault}
 use Rattle.dmc_sim.specs.declared.report.SimFault.TheVariants as sim
-use Rattle.dmc_text.specs.Texts.{ReadsWithin}
 use Rattle.std.proofs.KnownBytes.{Consumes-nil, Keeps-refl}
 use Rattle.dmc_tool.specs.Faults.{fault_of_scene, fault_of_sim}
-use Rattle.dmc_tool.specs.Scenes.{ReadsScene, ReadsSome, max_bytes}
+use Rattle.dmc_tool.specs.Scenes.{ReadsScene, ReadsSome, ReadsText, max_bytes}
 use Rattle.dmc_tool.specs.Sims.{RunsSim, WritesAll}
 use Rattle.dmc_tool.specs.declared.fault.Fault.{Fault}
 use Rattle.dmc_tool.specs.declared.fault.Fault.TheVariants as fault
@@ -25,7 +24,7 @@ none_yet r = ([], (Consumes-nil r, omega arith))
 
 -- the first n bytes of a buffer are read
 pub read_front : (before after : Option (List ℕ)) (items : List ℕ) (n : ℕ) → n ≤ max_bytes → length items ≡ max_bytes → Consumes before after (take n items) → (n < max_bytes → IsAtEnd after)
-    → ReadsWithin max_bytes before after (take n items) × (length (take n items) < max_bytes → IsAtEnd after)
+    → ReadsText before after (take n items)
 read_front before after items n most size read end =
     let len : length (take n items) ≡ n = length-take-le n items (omega (arith, most, size)) in
     ((read, omega (arith, len, most)), λ h. end (omega (arith, len, h)))
@@ -34,23 +33,23 @@ abbrev failed : SceneFault → Result SceneValue SceneFault
 failed cause = Err cause
 
 -- a text that is no scene
-refused : (before after : Option (List ℕ)) (text : List ℕ) (cause : SceneFault) → ReadsWithin max_bytes before after text → (length text < max_bytes → IsAtEnd after)
+refused : (before after : Option (List ℕ)) (text : List ℕ) (cause : SceneFault) → ReadsText before after text
     → (failed cause ≢ failed scene.Memory → failed cause ≡ scene_in text) → ReadsScene before after (Err (fault_of_scene cause))
-refused before after text scene.Text read end is = (text, read, end, sym (is (λ e. cc)))
-refused before after text (scene.Missing key) read end is = (text, read, end, sym (is (λ e. cc)))
-refused before after text (scene.Kind key) read end is = (text, read, end, sym (is (λ e. cc)))
-refused before after text (scene.Value key) read end is = (text, read, end, sym (is (λ e. cc)))
-refused before after text scene.Memory read end is = (text, read)
+refused before after text scene.Text read is = (text, read, sym (is (λ e. cc)))
+refused before after text (scene.Missing key client) read is = (text, read, sym (is (λ e. cc)))
+refused before after text (scene.Kind key client) read is = (text, read, sym (is (λ e. cc)))
+refused before after text (scene.Value key client) read is = (text, read, sym (is (λ e. cc)))
+refused before after text scene.Memory read is = (text, read.0)
 
-pub refused_as : (before after : Option (List ℕ)) (text : List ℕ) (cause : SceneFault) (result : Result SceneValue Fault) → (ReadsWithin max_bytes before after text × (length text < max_bytes → IsAtEnd after))
+pub refused_as : (before after : Option (List ℕ)) (text : List ℕ) (cause : SceneFault) (result : Result SceneValue Fault) → ReadsText before after text
     → (failed cause ≢ failed scene.Memory → failed cause ≡ scene_in text) → IsErrAnd result (λ shown. shown ≡ fault_of_scene cause) → ReadsScene before after result
 refused_as before after text cause (Ok s) read is e = absurd e
-refused_as before after text cause (Err f) read is e = subst (λ x. ReadsScene before after (Err x)) (sym e) (refused before after text cause read.0 read.1 is)
+refused_as before after text cause (Err f) read is e = subst (λ x. ReadsScene before after (Err x)) (sym e) (refused before after text cause read is)
 
 -- the scene has no report
 unreported : (before after old : Option (List ℕ)) (s : SceneValue) (f : SimFault) → ReadsScene before after (Ok s) → Simulates s (Err f) → RunsSim before after old old (Err (fault_of_sim f))
 unreported before after old s (sim.Refused refusal) h is = ((s, refusal, h, is), Keeps-refl old)
-unreported before after old s sim.Memory h is = ((h.0, h.1), Keeps-refl old)
+unreported before after old s sim.Memory h is = ((h.0, h.1.0), Keeps-refl old)
 
 pub unreported_as : (before after old : Option (List ℕ)) (s : SceneValue) (f : SimFault) (result : Result Outcome Fault) → ReadsScene before after (Ok s) → Simulates s (Err f) → IsErrAnd result (λ shown. shown ≡ fault_of_sim f)
     → RunsSim before after old old result

@@ -22,9 +22,9 @@ status_of fault.Read = 1
 status_of fault.Write = 1
 status_of fault.Memory = 1
 status_of fault.SceneText = 1
-status_of (fault.SceneMissing key) = 1
-status_of (fault.SceneKind key) = 1
-status_of (fault.SceneValue key) = 1
+status_of (fault.SceneMissing key client) = 1
+status_of (fault.SceneKind key client) = 1
+status_of (fault.SceneValue key client) = 1
 status_of fault.Torn = 1
 status_of fault.Range = 1
 status_of fault.TurnsOut = 4
@@ -51,9 +51,9 @@ fault_of_script script.Memory = fault.Memory
 -- the program's fault for one of a scene
 abbrev pub fault_of_scene : SceneFault → Fault
 fault_of_scene scene.Text = fault.SceneText
-fault_of_scene (scene.Missing key) = fault.SceneMissing key
-fault_of_scene (scene.Kind key) = fault.SceneKind key
-fault_of_scene (scene.Value key) = fault.SceneValue key
+fault_of_scene (scene.Missing key client) = fault.SceneMissing key client
+fault_of_scene (scene.Kind key client) = fault.SceneKind key client
+fault_of_scene (scene.Value key client) = fault.SceneValue key client
 fault_of_scene scene.Memory = fault.Memory
 
 -- the program's fault for one of a simulation

@@ -1,5 +1,7 @@
 -- What explains a fault: a line behind its own, which names what is wrong and says what was expected.
 pub mod Explanations
+-- The lines on the keys of a text that are ignored, since no scene has them.
+pub mod Ignored
 -- The exit status of each fault, and the word of a line's cause.
 pub mod Faults
 -- Whether the streams of a run failed, by how the run ends. Read and Write are reported only if the reader or the writer
@@ -11,6 +13,9 @@ pub mod Outcomes
 pub mod ReportTexts
 -- The lines that show how far a command is. How many there are depends on how long it takes, so no contract says that.
 pub mod Progress
+-- What is remarked on a scene that is read: the lines on its keys that are ignored. They are written behind those of a fault, if an
+-- explanation is asked for.
+pub mod Remarks
 -- What a run of a scene in threads writes, and how it ends.
 pub mod RunReports
 -- One run of the program, by what its words ask for.

@@ -28,6 +28,7 @@ use Rattle.dmc_tool.specs.Sims.{RunsSim}
 use Rattle.dmc_tool.specs.Explanations.{explanation, word_explanation}
 use Rattle.dmc_tool.specs.FaultLine.{Sends, WritesFault, WritesLines, fault_text}
 use Rattle.dmc_tool.specs.Progress.{ShowsProgress}
+use Rattle.dmc_tool.specs.Remarks.{WordsRemarks, WritesRemarks}
 use Rattle.dmc_tool.specs.Words.{Asked, IsLongestPart, ask_tool, ask_version, explains, has_explain, shown_command}
 use Rattle.clap.specs.Words.{Text}
 use Rattle.dmc_tool.specs.declared.version.TheConstants.{VERSION}
@@ -81,11 +82,13 @@ abbrev pub RunsWords : Option Tool → (before after old new : Option (List ℕ)
 RunsWords None before after old new end = Keeps before after × Keeps old new × ((end ≡ Err Usage) ⊎ (end ≡ Err Memory))
 RunsWords (Some tool) before after old new end = RunsCommand tool.command tool.tags before after old new end
 
--- what a tool, or none, reads and writes by the end of its run, and whether its streams fail
-abbrev pub RunsOn : {R W : Type 0} → (R → Option (List ℕ)) → (W → Option (List ℕ)) → Option Tool → (before after : Watched R) → (old new : Watched W) → Result Outcome Fault → Type 0
-RunsOn left held tool before after old new end =
+-- what a tool, or none, reads and writes by the end of its run, whether its streams fail, and what is remarked
+abbrev pub RunsOn : {R W : Type 0} → (R → Option (List ℕ)) → (W → Option (List ℕ)) → Option Tool → Bool → (before after : Watched R) → (old new : Watched W) → Result Outcome Fault
+    → (blank remarks : List ℕ) → Type 0
+RunsOn left held tool is_explained before after old new end blank remarks =
     RunsWords tool (left (stream_of before)) (left (stream_of after)) (held (stream_of old)) (held (stream_of new)) end
     × WordsNoted left tool before after old new end
+    × WordsRemarks tool is_explained (left (stream_of before)) (left (stream_of after)) end blank remarks
 
 -- Which files can be opened: whether this is the one of a name, as it was opened, and whether the one of a name can't be opened.
 pub record Opening (I : Type 0) : Type 1 where
@@ -94,10 +97,12 @@ pub record Opening (I : Type 0) : Type 1 where
 
 -- A tool runs on the file of a name. If it can't be opened, that is reported as Read, and nothing is written, as at a failed
 -- allocation.
-abbrev pub RunsOnFile : {I W : Type 0} → Opening I → (I → Option (List ℕ)) → (W → Option (List ℕ)) → Tool → List ℕ → (old new : Watched W) → Result Outcome Fault → Type 0
-RunsOnFile {I} opens left held tool name old new end =
-    ((before : Watched I) × (after : Watched I) × opens.is_opened name (stream_of before) × (failed before ≡ false) × RunsOn left held (Some tool) before after old new end)
-    ⊎ ((new ≡ old) × ((opens.is_refused name × (end ≡ Err Read)) ⊎ (end ≡ Err Memory)))
+abbrev pub RunsOnFile : {I W : Type 0} → Opening I → (I → Option (List ℕ)) → (W → Option (List ℕ)) → Tool → Bool → List ℕ → (old new : Watched W) → Result Outcome Fault
+    → (blank remarks : List ℕ) → Type 0
+RunsOnFile {I} opens left held tool is_explained name old new end blank remarks =
+    ((before : Watched I) × (after : Watched I) × opens.is_opened name (stream_of before) × (failed before ≡ false)
+    × RunsOn left held (Some tool) is_explained before after old new end blank remarks)
+    ⊎ ((new ≡ old) × (remarks ≡ blank) × ((opens.is_refused name × (end ≡ Err Read)) ⊎ (end ≡ Err Memory)))
 
 -- the line of the version
 abbrev pub version_line : List ℕ
@@ -111,20 +116,22 @@ WritesVersion held old new end =
     ⊎ ((end ≡ Err Memory) × (new ≡ old)))
 
 -- What is asked for runs, by its end. The first arguments say which files can be opened, which bytes a file and the reader have
--- left, and which the writer has taken.
+-- left, and which the writer has taken; the last are the remarks before and after.
 abbrev pub RunsAsked : {I R W : Type 0} → Opening I → (I → Option (List ℕ)) → (R → Option (List ℕ)) → (W → Option (List ℕ)) → Option Asked
-    → (before after : Watched R) → (old new : Watched W) → Result Outcome Fault → Type 0
-RunsAsked opens left_of left held None before after old new end = RunsOn left held None before after old new end
-RunsAsked opens left_of left held (Some ask_version) before after old new end = (after ≡ before) × WritesVersion held old new end
-RunsAsked opens left_of left held (Some (ask_tool tool None is_explained shows_progress)) before after old new end = RunsOn left held (Some tool) before after old new end
-RunsAsked opens left_of left held (Some (ask_tool tool (Some name) is_explained shows_progress)) before after old new end = (after ≡ before) × RunsOnFile opens left_of held tool name old new end
+    → (before after : Watched R) → (old new : Watched W) → Result Outcome Fault → (blank remarks : List ℕ) → Type 0
+RunsAsked opens left_of left held None before after old new end blank remarks = RunsOn left held None false before after old new end blank remarks
+RunsAsked opens left_of left held (Some ask_version) before after old new end blank remarks = (after ≡ before) × (remarks ≡ blank) × WritesVersion held old new end
+RunsAsked opens left_of left held (Some (ask_tool tool None is_explained shows_progress)) before after old new end blank remarks =
+    RunsOn left held (Some tool) is_explained before after old new end blank remarks
+RunsAsked opens left_of left held (Some (ask_tool tool (Some name) is_explained shows_progress)) before after old new end blank remarks =
+    (after ≡ before) × RunsOnFile opens left_of held tool is_explained name old new end blank remarks
 
 -- ---- what is reported
 
--- a fault is reported, and explained if that is asked for
-abbrev pub Reports : {E : Type 0} → (E → Option (List ℕ)) → Bool → Fault → (quiet loud : Watched E) → Type 0
-Reports heard false fault quiet loud = WritesFault heard fault quiet loud
-Reports heard true fault quiet loud = WritesLines heard (with_line_end (fault_text fault) ++ explanation fault) quiet loud
+-- a fault is reported, and if that is asked for, explained, before the remarks
+abbrev pub Reports : {E : Type 0} → (E → Option (List ℕ)) → Bool → Fault → List ℕ → (quiet loud : Watched E) → Type 0
+Reports heard false fault remarks quiet loud = WritesFault heard fault quiet loud
+Reports heard true fault remarks quiet loud = WritesLines heard ((with_line_end (fault_text fault) ++ explanation fault) ++ remarks) quiet loud
 
 -- a usage fault is reported, and explained if the words ask for that: by the first that is not as in the usage
 abbrev pub ReportsUsage : {E : Type 0} → (E → Option (List ℕ)) → List ToolCommand → List Text → Bool → (quiet loud : Watched E) → Type 0
@@ -137,26 +144,27 @@ abbrev pub ReportsWords : {E : Type 0} → (E → Option (List ℕ)) → List To
 ReportsWords heard written words Usage quiet loud = ReportsUsage heard written words (has_explain words) quiet loud
 ReportsWords heard written words fault quiet loud = WritesFault heard fault quiet loud
 
-abbrev pub ReportsFault : {E : Type 0} → (E → Option (List ℕ)) → List ToolCommand → List Text → Option Asked → Fault → (quiet loud : Watched E) → Type 0
-ReportsFault heard written words None fault quiet loud = ReportsWords heard written words fault quiet loud
-ReportsFault heard written words (Some asks) fault quiet loud = Reports heard (explains asks) fault quiet loud
+abbrev pub ReportsFault : {E : Type 0} → (E → Option (List ℕ)) → List ToolCommand → List Text → Option Asked → Fault → List ℕ → (quiet loud : Watched E) → Type 0
+ReportsFault heard written words None fault remarks quiet loud = ReportsWords heard written words fault quiet loud
+ReportsFault heard written words (Some asks) fault remarks quiet loud = Reports heard (explains asks) fault remarks quiet loud
 
--- a run without a fault writes none of these lines
-abbrev pub ReportsEnd : {E : Type 0} → (E → Option (List ℕ)) → List ToolCommand → List Text → Option Asked → Result Outcome Fault → (quiet loud : Watched E) → Type 0
-ReportsEnd heard written words asks (Ok outcome) quiet loud = loud ≡ quiet
-ReportsEnd heard written words asks (Err fault) quiet loud = ReportsFault heard written words asks fault quiet loud
+-- a run without a fault writes the remarks alone
+abbrev pub ReportsEnd : {E : Type 0} → (E → Option (List ℕ)) → List ToolCommand → List Text → Option Asked → Result Outcome Fault → List ℕ → (quiet loud : Watched E) → Type 0
+ReportsEnd heard written words asks (Ok outcome) remarks quiet loud = WritesRemarks heard remarks quiet loud
+ReportsEnd heard written words asks (Err fault) remarks quiet loud = ReportsFault heard written words asks fault remarks quiet loud
 
 -- ---- a run of the program
 
--- What the words ask for runs, by its exit status: what is read and written, whether its streams fail, which progress is shown if
--- that is asked for, and what is reported behind it. The first arguments are those of RunsAsked, and which bytes the fault writer
--- has taken.
+-- What the words ask for runs, by its exit status: what is read and written, whether its streams fail, what is remarked on a scene
+-- and which progress is shown if that is asked for, and what is reported behind it. The first arguments are those of RunsAsked, and
+-- which bytes the fault writer has taken.
 pub record RunsProgram {I R W E : Type 0} (opens : Opening I) (left_of : I → Option (List ℕ)) (left : R → Option (List ℕ)) (held : W → Option (List ℕ))
     (heard : E → Option (List ℕ)) (written : List ToolCommand) (words : List Text) (asks : Option Asked) (before after : Watched R) (old new : Watched W)
     (quiet loud : Watched E) (status : ℕ) : Type 0 where
   pub end : Result Outcome Fault
+  pub remarks : List ℕ
   pub shown : Watched E
-  pub runs : RunsAsked opens left_of left held asks before after old new end
+  pub runs : RunsAsked opens left_of left held asks before after old new end [] remarks
   pub shows : ShowsProgress heard (option_and_then shown_command asks) quiet shown
-  pub reports : ReportsEnd heard written words asks end shown loud
+  pub reports : ReportsEnd heard written words asks end remarks shown loud
   pub status_is : status ≡ exit_status end

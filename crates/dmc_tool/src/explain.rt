@@ -6,11 +6,13 @@ ghost use Rattle.dmc_text.specs.Texts.{with_line_end};
 ghost use Rattle.dmc_tool.specs.Explanations.{explanation, line_if_any, word_explanation};
 ghost use Rattle.dmc_tool.specs.FaultLine.{Sends, WritesLines, fault_text, line_of};
 ghost use Rattle.dmc_tool.specs.Faults.{status_of};
+ghost use Rattle.dmc_tool.specs.Remarks.{WritesRemarks};
 ghost use Rattle.dmc_tool.specs.Words.{IsLongestPart};
 
 use crate::fault::{Fault, FaultText};
 use crate::fault_line::send_text;
 use crate::words::{WRITTEN, WordsFault, read_words};
+use dmc_text::send::send;
 use dmc_text::watched::Watched;
 use std::alloc::{AllocError, Global};
 use std::convert::AsStr;
@@ -50,14 +52,31 @@ pub(crate) fn word_at<S: AsStr>(words: &[S], place: usize) -> Option<&str>
     }
 }
 
-/// Writes a fault's text as one line, and what explains it, if it has an explanation, as a second. Returns the exit status. If
-/// the writer fails, a first part is written, and the status is the same.
-pub(crate) fn write_explained<W: Write>(fault: Fault, fault_writer: &mut Watched<W>) -> u8
+/// Writes a fault's text as one line, what explains it, if it has an explanation, as a second, and then the remarks. Returns the
+/// exit status. If the writer fails, a first part is written, and the status is the same.
+pub(crate) fn write_explained<W: Write>(
+    fault: Fault,
+    remarks: &str,
+    fault_writer: &mut Watched<W>,
+) -> u8
     ensures status { result ≡ status_of fault }
-    ensures text { WritesLines W.contents (with_line_end (fault_text fault) ++ explanation fault) fault_writer.old fault_writer.new }
+    ensures text { WritesLines W.contents ((with_line_end (fault_text fault) ++ explanation fault) ++ remarks.now) fault_writer.old fault_writer.new }
 {
-    let _ = send_lines(&fault.text(), fault.explanation(), fault_writer);
+    if !send_lines(&fault.text(), fault.explanation(), fault_writer) {
+        return fault.status();
+    }
+    write_remarks(remarks, fault_writer);
     fault.status()
+}
+
+/// Writes the remarks, if there are any. If the writer fails, a first part is written.
+pub(crate) fn write_remarks<W: Write>(remarks: &str, fault_writer: &mut Watched<W>)
+    ensures { WritesRemarks W.contents remarks.now fault_writer.old fault_writer.new }
+{
+    if remarks.is_empty() {
+        return;
+    }
+    let _ = send(remarks.as_bytes(), fault_writer);
 }
 
 /// The same of a usage fault, which is explained by the first word that is not as in the usage, if there is one.

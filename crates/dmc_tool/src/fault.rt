@@ -4,13 +4,14 @@ ghost use Rattle.dmc_scene.specs.Keys.{name_of};
 ghost use Rattle.dmc_text.specs.Texts.{with_line_end};
 ghost use Rattle.dmc_tool.specs.Faults.{cause_word, fault_of_words, status_of};
 ghost use Rattle.dmc_tool.specs.FaultLine.{fault_text, line_of};
-ghost use Rattle.dmc_tool.specs.Explanations.{expected_of_key, expected_of_line, explanation, line_if_any};
+ghost use Rattle.dmc_tool.specs.Explanations.{expected_of_key, expected_of_line, explanation, line_if_any, place_text};
 
 use crate::words::WordsFault;
 use dmc_scene::key::Key;
 use dmc_text::cause::LineCause;
 
-/// The reason why the program does not end with status 0. Its text goes to standard error as one line.
+/// The reason why the program does not end with status 0. Its text goes to standard error as one line. Beside a scene's key is the
+/// place of the client in whose table it is, counted from 1, if it is in one.
 #[derive(Clone, Copy, Debug, PartialEq, Eq)]
 pub enum Fault {
     /// The usage does not have these words.
@@ -26,11 +27,11 @@ pub enum Fault {
     /// Standard input is no scene: it has too many bytes, or is no TOML.
     SceneText,
     /// A scene lacks the key.
-    SceneMissing(Key),
+    SceneMissing(Key, Option<u64>),
     /// The value of a scene's key is of another kind.
-    SceneKind(Key),
+    SceneKind(Key, Option<u64>),
     /// The value of a scene's key is out of its limits.
-    SceneValue(Key),
+    SceneValue(Key, Option<u64>),
     /// After `run`, what it set up and what came back are parts of different set-ups.
     Torn,
     /// A simulated queue refused an arrival or a pull: a sum is no value of the tag type.
@@ -65,9 +66,9 @@ impl Fault {
             Fault::Write => plain("dmclock: write"),
             Fault::Memory => plain("dmclock: memory"),
             Fault::SceneText => plain("dmclock: scene text"),
-            Fault::SceneMissing(key) => of_key("dmclock: scene missing ", *key),
-            Fault::SceneKind(key) => of_key("dmclock: scene kind ", *key),
-            Fault::SceneValue(key) => of_key("dmclock: scene value ", *key),
+            Fault::SceneMissing(key, _) => of_key("dmclock: scene missing ", *key),
+            Fault::SceneKind(key, _) => of_key("dmclock: scene kind ", *key),
+            Fault::SceneValue(key, _) => of_key("dmclock: scene value ", *key),
             Fault::Torn => plain("dmclock: torn"),
             Fault::Range => plain("dmclock: refused range"),
             Fault::TurnsOut => plain("dmclock: turns out"),
@@ -86,9 +87,9 @@ impl Fault {
                 number: Some(*number),
                 tail: expected_of_line(*cause),
             }),
-            Fault::SceneMissing(key) | Fault::SceneKind(key) | Fault::SceneValue(key) => {
-                Some(plain(expected_of_key(*key)))
-            }
+            Fault::SceneMissing(key, client)
+            | Fault::SceneKind(key, client)
+            | Fault::SceneValue(key, client) => Some(expected_at(*client, *key)),
             Fault::Read => Some(plain(
                 "dmclock: input: expected a file or a stream that can be read, of at most 2^32 bytes",
             )),
@@ -179,34 +180,48 @@ fn expected_of_line(cause: LineCause) -> &'static str
     }
 }
 
+/// The text that says what is expected of a key, in the table of the client at a place if it is in one.
+fn expected_at(client: Option<u64>, key: Key) -> FaultText<'static>
+    ensures { line_of result ≡ with_line_end (place_text client ++ expected_of_key key) }
+{
+    FaultText {
+        head: if client.is_none() {
+            "dmclock"
+        } else {
+            "dmclock: client "
+        },
+        number: client,
+        tail: expected_of_key(key),
+    }
+}
+
 /// What is expected of a key.
 fn expected_of_key(key: Key) -> &'static str
     ensures { result.now ≡ expected_of_key key }
 {
     match key {
-        Key::Hz => "dmclock: key hz: expected an integer from 1 to 1000000000",
-        Key::IdleAge => "dmclock: key idle_age: expected an integer from 1 to 2^62",
-        Key::EraseAge => "dmclock: key erase_age: expected an integer from idle_age to 2^62",
-        Key::Tags => "dmclock: key tags: expected the text tick or ratio",
-        Key::Servers => "dmclock: key servers: expected an integer from 1 to 64",
-        Key::Workers => "dmclock: key workers: expected an integer from 1 to 16",
-        Key::Step => "dmclock: key step: expected an integer from 1 to 1000000000",
-        Key::Seed => "dmclock: key seed: expected an integer from 0 to 2^63-1",
-        Key::MaxPulls => "dmclock: key max_pulls: expected an integer from 1 to 2^30",
-        Key::Counting => "dmclock: key counting: expected the text all or others",
-        Key::AtLimit => "dmclock: key at_limit: expected the text wait or allow",
-        Key::Shares => "dmclock: key shares: expected the text clock or virtual",
-        Key::Client => "dmclock: key client: expected a list of 1 to 256 tables",
-        Key::Id =>
-            "dmclock: key id: expected an integer from 0 to 2^32-1, another one for each client",
+        Key::Hz => ": key hz: expected an integer from 1 to 1000000000",
+        Key::IdleAge => ": key idle_age: expected an integer from 1 to 2^62",
+        Key::EraseAge => ": key erase_age: expected an integer from idle_age to 2^62",
+        Key::Tags => ": key tags: expected the text tick or ratio",
+        Key::Servers => ": key servers: expected an integer from 1 to 64",
+        Key::Workers => ": key workers: expected an integer from 1 to 16",
+        Key::Step => ": key step: expected an integer from 1 to 1000000000",
+        Key::Seed => ": key seed: expected an integer from 0 to 2^63-1",
+        Key::MaxPulls => ": key max_pulls: expected an integer from 1 to 2^30",
+        Key::Counting => ": key counting: expected the text all or others",
+        Key::AtLimit => ": key at_limit: expected the text wait or allow",
+        Key::Shares => ": key shares: expected the text clock or virtual",
+        Key::Client => ": key client: expected a list of 1 to 256 tables",
+        Key::Id => ": key id: expected an integer from 0 to 2^32-1, another one for each client",
         Key::Reservation =>
-            "dmclock: key reservation: expected an integer from 1 to 2^32-1, with ticks one that divides hz",
+            ": key reservation: expected an integer from 1 to 2^32-1, with ticks one that divides hz",
         Key::Weight =>
-            "dmclock: key weight: expected an integer from 1 to 2^32-1, with ticks one that divides hz",
+            ": key weight: expected an integer from 1 to 2^32-1, with ticks one that divides hz",
         Key::Limit =>
-            "dmclock: key limit: expected an integer from 1 to 2^32-1, with ticks one that divides hz",
-        Key::Requests => "dmclock: key requests: expected an integer from 0 to 1000000",
-        Key::Window => "dmclock: key window: expected an integer from 1 to 1024",
-        Key::Costs => "dmclock: key costs: expected a list of 1 to 16 integers from 1 to 1024",
+            ": key limit: expected an integer from 1 to 2^32-1, with ticks one that divides hz",
+        Key::Requests => ": key requests: expected an integer from 0 to 1000000",
+        Key::Window => ": key window: expected an integer from 1 to 1024",
+        Key::Costs => ": key costs: expected a list of 1 to 16 integers from 1 to 1024",
     }
 }

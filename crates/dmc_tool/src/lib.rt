@@ -5,6 +5,7 @@ mod check;
 mod explain;
 pub mod fault;
 pub mod fault_line;
+mod ignored;
 pub mod inputs;
 mod makers;
 mod outcome;

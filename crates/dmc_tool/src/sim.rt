@@ -1,8 +1,9 @@
 //! The command `sim`.
-ghost use Rattle.std.specs.Prelude.{◌≡◌};
+ghost use Rattle.std.specs.Prelude.{◌≡◌, string_bytes};
 ghost use Rattle.dmc_text.specs.Watching.{stream_of};
 ghost use Rattle.dmc_tool.specs.Faults.{fault_of_sim};
 ghost use Rattle.dmc_tool.specs.Notes.{ReportNoted};
+ghost use Rattle.dmc_tool.specs.Remarks.{RemarksOn};
 ghost use Rattle.dmc_tool.specs.Sims.{RunsSim, end_of_sim};
 
 use crate::fault::Fault;
@@ -28,17 +29,20 @@ impl From<SimFault> for Fault {
 }
 
 /// Simulates the scene that is read, and writes the report. If the round limit was reached, that is reported after the report.
-/// Each round is counted.
+/// Each round is counted. If an explanation is asked for, the keys of the scene that are ignored are remarked.
 pub fn simulate_on<R: Read, W: Write>(
     alloc: Global,
+    is_explained: bool,
     progress: &Progress,
     reader: &mut Watched<R>,
     writer: &mut Watched<W>,
+    remarks: &mut String,
 ) -> Result<Outcome, Fault>
     ensures bytes { RunsSim (R.remaining (stream_of reader.old)) (R.remaining (stream_of reader.new)) (W.contents (stream_of writer.old)) (W.contents (stream_of writer.new)) result }
     ensures notes { ReportNoted reader.old reader.new writer.old writer.new result }
+    ensures remarks { RemarksOn is_explained (R.remaining (stream_of reader.old)) (R.remaining (stream_of reader.new)) result (string_bytes remarks.old) (string_bytes remarks.new) }
 {
-    let scene = scene_of(alloc, reader)?;
+    let scene = scene_of(alloc, is_explained, reader, remarks)?;
     let report = simulate(alloc, &scene, &progress.rounds)?;
     let text = report_text(alloc, &report)?;
     if !send(text.as_bytes(), writer) {

@@ -1,15 +1,18 @@
 //! One run of the program, over any streams.
-ghost use Rattle.std.specs.Prelude.{◌≡◌, ◌≤◌, Some, map};
+ghost use Rattle.std.specs.Prelude.{◌≡◌, ◌≤◌, Some, map, string_bytes};
 ghost use Rattle.dmc_text.specs.Watching.{stream_of};
 ghost use Rattle.dmc_tool.specs.Notes.{CheckNoted, CommandNoted, ScriptNoted};
 ghost use Rattle.dmc_tool.specs.Faults.{status_of};
 ghost use Rattle.dmc_tool.specs.Progress.{ShowsProgress, WritesProgress};
+ghost use Rattle.dmc_tool.specs.Remarks.{CommandRemarks};
 ghost use Rattle.dmc_tool.specs.Runs.{Reports, RunsAsked, RunsCommand, RunsOnFile, RunsProgram};
 ghost use Rattle.dmc_tool.specs.internal.Reported.{RefusesWords, RunsReported};
 ghost use Rattle.dmc_tool.specs.Words.{asked, asked_by_words, shown_command};
 ghost use Rattle.dmc_tool.specs.declared.words.ToolCommand.TheVariants.{Check, Script};
 
-use crate::explain::{has_explain, longest_part, word_at, write_explained, write_usage};
+use crate::explain::{
+    has_explain, longest_part, word_at, write_explained, write_remarks, write_usage,
+};
 use crate::fault::Fault;
 use crate::fault_line::write_fault;
 use crate::inputs::Inputs;
@@ -27,11 +30,11 @@ use std::sync::Wait;
 use std::thread::{Threads, join_mut};
 
 /// Runs what the words ask for: a tool, on the reader or on the file that they name, or the version, which is written. Replies and
-/// verdicts go to the writer, a fault's text to the fault writer as one line, with a second that explains it if the words ask for
-/// that. If the words ask for progress, another thread writes the lines of what is counted in `progress` to the fault writer while
-/// the command runs. The words are those after the program's name. A file that can't be opened is reported as `Read`. It returns the exit
-/// status: 0 if all is done, 1 at a fault, 2 if the words ask for nothing, 3 if events do not replay, 4 if a simulation or a run
-/// ended early.
+/// verdicts go to the writer, a fault's text to the fault writer as one line. If the words ask for an explanation, a second line
+/// explains the fault, and behind that, at a fault or not, is a line for each key of a scene that is ignored. If the words ask for
+/// progress, another thread writes the lines of what is counted in `progress` to the fault writer while the command runs. The words
+/// are those after the program's name. A file that can't be opened is reported as `Read`. It returns the exit status: 0 if all is
+/// done, 1 at a fault, 2 if the words ask for nothing, 3 if events do not replay, 4 if a simulation or a run ended early.
 pub fn run_tool<
     T: AllocGlobal + Threads + Wait + Sync,
     I: Inputs,
@@ -92,9 +95,24 @@ fn run_reported<
         reader.old reader.new writer.old writer.new fault_writer.old fault_writer.new result }
 {
     let is_explained = request.is_explained();
-    match run_shown(rt, inputs, request, progress, reader, writer, fault_writer) {
-        Ok(outcome) => outcome.status(),
-        Err(fault) => report(fault, is_explained, fault_writer),
+    let mut remarks = String::new(rt.alloc());
+    let end = run_shown(
+        rt,
+        inputs,
+        request,
+        progress,
+        reader,
+        writer,
+        fault_writer,
+        &mut remarks,
+    );
+    let remarks = remarks.as_str();
+    match end {
+        Ok(outcome) => {
+            write_remarks(remarks, fault_writer);
+            outcome.status()
+        }
+        Err(fault) => report(fault, is_explained, remarks, fault_writer),
     }
 }
 
@@ -107,13 +125,14 @@ fn run_shown<T: AllocGlobal + Threads + Wait + Sync, I: Inputs, R: Read, W: Writ
     reader: &mut Watched<R>,
     writer: &mut Watched<W>,
     fault_writer: &mut Watched<E>,
+    remarks: &mut String,
 ) -> Result<Outcome, Fault>
     ensures runs { RunsAsked (record { is_opened = I.is_opened inputs.now; is_refused = I.is_refused inputs.now }) I.Input.remaining R.remaining W.contents (Some (asked request.entry))
-        reader.old reader.new writer.old writer.new result }
+        reader.old reader.new writer.old writer.new result (string_bytes remarks.old) (string_bytes remarks.new) }
     ensures shows { ShowsProgress E.contents (shown_command (asked request.entry)) fault_writer.old fault_writer.new }
 {
     match request.shown_command() {
-        None => run_request(rt, inputs, request, progress, reader, writer),
+        None => run_request(rt, inputs, request, progress, reader, writer, remarks),
         Some(command) => run_beside(
             rt,
             inputs,
@@ -123,6 +142,7 @@ fn run_shown<T: AllocGlobal + Threads + Wait + Sync, I: Inputs, R: Read, W: Writ
             reader,
             writer,
             fault_writer,
+            remarks,
         ),
     }
 }
@@ -143,9 +163,10 @@ fn run_beside<
     reader: &mut Watched<R>,
     writer: &mut Watched<W>,
     fault_writer: &mut Watched<E>,
+    remarks: &mut String,
 ) -> Result<Outcome, Fault>
     ensures runs { RunsAsked (record { is_opened = I.is_opened inputs.now; is_refused = I.is_refused inputs.now }) I.Input.remaining R.remaining W.contents (Some (asked request.entry))
-        reader.old reader.new writer.old writer.new result }
+        reader.old reader.new writer.old writer.new result (string_bytes remarks.old) (string_bytes remarks.new) }
     ensures shows { WritesProgress E.contents command fault_writer.old fault_writer.new }
 {
     let mut write = ||
@@ -153,8 +174,8 @@ fn run_beside<
     { write_progress(rt, command, progress, fault_writer) };
     let mut run = || -> Result<Outcome, Fault>
         ensures { RunsAsked (record { is_opened = I.is_opened inputs.entry.now; is_refused = I.is_refused inputs.entry.now }) I.Input.remaining R.remaining W.contents (Some (asked request.entry))
-            reader.entry.now reader.exit.now writer.entry.now writer.exit.now result }
-    { run_to_end(rt, inputs, request, progress, reader, writer) };
+            reader.entry.now reader.exit.now writer.entry.now writer.exit.now result (string_bytes remarks.entry.now) (string_bytes remarks.exit.now) }
+    { run_to_end(rt, inputs, request, progress, reader, writer, remarks) };
     let ((), end) = join_mut(rt, &mut write, &mut run);
     end
 }
@@ -167,22 +188,28 @@ fn run_to_end<T: AllocGlobal + Threads + Wait + Sync, I: Inputs, R: Read, W: Wri
     progress: &Progress,
     reader: &mut Watched<R>,
     writer: &mut Watched<W>,
+    remarks: &mut String,
 ) -> Result<Outcome, Fault>
     ensures { RunsAsked (record { is_opened = I.is_opened inputs.now; is_refused = I.is_refused inputs.now }) I.Input.remaining R.remaining W.contents (Some (asked request.entry))
-        reader.old reader.new writer.old writer.new result }
+        reader.old reader.new writer.old writer.new result (string_bytes remarks.old) (string_bytes remarks.new) }
 {
-    let end = run_request(rt, inputs, request, progress, reader, writer);
+    let end = run_request(rt, inputs, request, progress, reader, writer, remarks);
     progress.end();
     end
 }
 
-/// Reports a fault, and explains it if that is asked for. Returns the exit status.
-fn report<E: Write>(fault: Fault, is_explained: bool, fault_writer: &mut Watched<E>) -> u8
+/// Reports a fault, and if that is asked for, explains it, before the remarks. Returns the exit status.
+fn report<E: Write>(
+    fault: Fault,
+    is_explained: bool,
+    remarks: &str,
+    fault_writer: &mut Watched<E>,
+) -> u8
     ensures status { result ≡ status_of fault }
-    ensures text { Reports E.contents is_explained fault fault_writer.old fault_writer.new }
+    ensures text { Reports E.contents is_explained fault remarks.now fault_writer.old fault_writer.new }
 {
     if is_explained {
-        write_explained(fault, fault_writer)
+        write_explained(fault, remarks, fault_writer)
     } else {
         write_fault(fault, fault_writer)
     }
@@ -196,22 +223,34 @@ fn run_request<T: AllocGlobal + Threads + Wait + Sync, I: Inputs, R: Read, W: Wr
     progress: &Progress,
     reader: &mut Watched<R>,
     writer: &mut Watched<W>,
+    remarks: &mut String,
 ) -> Result<Outcome, Fault>
     ensures { RunsAsked (record { is_opened = I.is_opened inputs.now; is_refused = I.is_refused inputs.now }) I.Input.remaining R.remaining W.contents (Some (asked request.entry))
-        reader.old reader.new writer.old writer.new result }
+        reader.old reader.new writer.old writer.new result (string_bytes remarks.old) (string_bytes remarks.new) }
 {
     match request {
         Request::Version => write_version(writer),
         Request::Tool {
             tool,
             file: None,
+            is_explained,
             ..
-        } => run_command(rt, tool, progress, reader, writer),
+        } => run_command(rt, tool, is_explained, progress, reader, writer, remarks),
         Request::Tool {
             tool,
             file: Some(name),
+            is_explained,
             ..
-        } => run_on_file(rt, inputs, tool, name, progress, writer),
+        } => run_on_file(
+            rt,
+            inputs,
+            tool,
+            is_explained,
+            name,
+            progress,
+            writer,
+            remarks,
+        ),
     }
 }
 
@@ -220,37 +259,58 @@ fn run_on_file<T: AllocGlobal + Threads + Wait + Sync, I: Inputs, W: Write>(
     rt: &T,
     inputs: &I,
     tool: Tool,
+    is_explained: bool,
     name: &str,
     progress: &Progress,
     writer: &mut Watched<W>,
+    remarks: &mut String,
 ) -> Result<Outcome, Fault>
-    ensures { RunsOnFile (record { is_opened = I.is_opened inputs.now; is_refused = I.is_refused inputs.now }) I.Input.remaining W.contents tool name.now writer.old writer.new result }
+    ensures { RunsOnFile (record { is_opened = I.is_opened inputs.now; is_refused = I.is_refused inputs.now }) I.Input.remaining W.contents tool is_explained name.now writer.old writer.new result
+        (string_bytes remarks.old) (string_bytes remarks.new) }
 {
     let Ok(input) = inputs.open(name) else {
         return Err(Fault::Read);
     };
     let mut reader = Watched::new(input);
-    run_command(rt, tool, progress, &mut reader, writer)
+    run_command(
+        rt,
+        tool,
+        is_explained,
+        progress,
+        &mut reader,
+        writer,
+        remarks,
+    )
 }
 
 /// Runs the command of a tool.
 fn run_command<T: AllocGlobal + Threads + Wait + Sync, R: Read, W: Write>(
     rt: &T,
     tool: Tool,
+    is_explained: bool,
     progress: &Progress,
     reader: &mut Watched<R>,
     writer: &mut Watched<W>,
+    remarks: &mut String,
 ) -> Result<Outcome, Fault>
     ensures bytes { RunsCommand tool.command tool.tags
         (R.remaining (stream_of reader.old)) (R.remaining (stream_of reader.new)) (W.contents (stream_of writer.old)) (W.contents (stream_of writer.new)) result }
     ensures notes { CommandNoted R.remaining tool.command reader.old reader.new writer.old writer.new result }
+    ensures remarks { CommandRemarks tool.command is_explained (R.remaining (stream_of reader.old)) (R.remaining (stream_of reader.new)) result (string_bytes remarks.old) (string_bytes remarks.new) }
 {
     let alloc = rt.alloc();
     match tool.command {
         ToolCommand::Script => run_script(alloc, tool.tags, reader, writer),
         ToolCommand::Check => check_events(alloc, tool.tags, reader, writer),
-        ToolCommand::Sim => sim::simulate_on(alloc, progress, reader, writer),
-        ToolCommand::Run => run::run_on(rt, alloc, progress, reader, writer),
+        ToolCommand::Sim => sim::simulate_on(
+            alloc,
+            is_explained,
+            progress,
+            reader,
+            writer,
+            remarks,
+        ),
+        ToolCommand::Run => run::run_on(rt, alloc, is_explained, progress, reader, writer, remarks),
     }
 }
 

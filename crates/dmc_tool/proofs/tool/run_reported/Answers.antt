@@ -1,23 +1,25 @@
 -- The progress is shown, and then the end is reported.
-use Rattle.std.proofs.Common.{Ok, Err, refl}
+use Rattle.std.proofs.Common.{Ok, Err, string_bytes}
 use Rattle.dmc_tool.proofs.tool.run_reported.Goals as goal
 
 pub returns-in-Ok : goal.returns-in-Ok
 returns-in-Ok g c = record {
   end = Ok c.in-Ok.outcome;
-  shown = c.run_shown.new.fault_writer;
-  runs = c.in-Ok.ensures.runs;
+  remarks = string_bytes c.run_shown-end.new.remarks;
+  shown = c.run_shown-end.new.fault_writer;
+  runs = rw c.new-remarks.ensures.bytes at c.in-Ok.ensures.runs;
   shows = c.in-Ok.ensures.shows;
-  reports = refl;
+  reports = rw c.as_str-remarks.ensures.value at c.write_remarks.ensures;
   status_is = c.status.ensures;
 }
 
-pub returns-in-Err : goal.returns-in-Err
-returns-in-Err g c = record {
+pub returns : goal.returns
+returns g c = record {
   end = Err c.in-Err.fault;
-  shown = c.run_shown.new.fault_writer;
-  runs = c.in-Err.ensures.runs;
+  remarks = string_bytes c.run_shown-end.new.remarks;
+  shown = c.run_shown-end.new.fault_writer;
+  runs = rw c.new-remarks.ensures.bytes at c.in-Err.ensures.runs;
   shows = c.in-Err.ensures.shows;
-  reports = rw c.is_explained-is_explained.ensures at c.report.ensures.text;
+  reports = rw (c.as_str-remarks.ensures.value, c.is_explained-is_explained.ensures) at c.report.ensures.text;
   status_is = c.report.ensures.status;
 }

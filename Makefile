@@ -37,9 +37,10 @@ demo:
 examples:
 	scripts/examples
 
-# A server in threads for a million events: whether each replays, and whether its memory grows. bench/soak.sh EVENTS takes more.
+# Servers in threads for a million events: whether each replays, and whether memory grows. bench/soak.sh EVENTS takes more.
 soak:
 	bench/soak.sh 1000000
+	bench/soak.sh 1000000 example_shards
 
 # Every crate's tests with each allocation refused in turn. It proves nothing.
 refusals:

@@ -1,17 +1,19 @@
 #!/usr/bin/env bash
 # A soak of crates/example_server: bench/soak.sh EVENTS. Four clients make requests of a server whose queue is behind a lock,
 # two of them come during the first tenth, and an auditor releases what was recorded every 65,536 events, replays it and drops
-# it. Every ten seconds (of up to 200,000,000 events at each release) it prints the events, the events a second and the resident
-# memory; at the end the greatest. How far the threads are apart when events are released changes from one release to the next,
+# it. bench/soak.sh EVENTS example_shards is one of crates/example_shards, with four shards and two workers at each. Every ten
+# seconds (of up to 200,000,000 events at each release) it prints the events, the events a second and the resident memory; at the
+# end the greatest. How far the threads are apart when events are released changes from one release to the next,
 # and the memory with it; so what is compared is the least in the last tenth with the greatest in the first (and the first eight
 # reports). Status 1: a segment does not replay, the program fails, or that grew by more than 5% and by more than 4,096 kB,
 # which is about what the events of one release take. All threads allocate in one arena, where what one frees serves the others.
-# It builds the program where that is not there: cd crates/example_server && rt run
+# It builds the program if that is not there: cd crates/example_server && rt run
 set -eu
 cd "$(dirname "$0")/.."
 events=$1
-program=crates/example_server/out/example_server
-[ -x "$program" ] || (cd crates/example_server && rt run > /dev/null)
+name=${2:-example_server}
+program=crates/$name/out/$name
+[ -x "$program" ] || (cd "crates/$name" && rt run > /dev/null)
 pause=10000
 [ "$events" -gt 200000000 ] || pause=1
 folder=$(mktemp -d)

@@ -41,7 +41,7 @@ impl<S: Setup> Requester<S> {
         let client = shared.client(self.id)?;
         for number in 0..self.requests {
             if number % BATCH == 0 {
-                shared.backlog.announce(rt);
+                shared.backlog.announce(rt, BATCH);
                 client.served.wait_for(rt, number.saturating_sub(BATCH));
             }
             self.request(rt, shared, client, Token(number % (2 * BATCH)))?;

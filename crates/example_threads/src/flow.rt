@@ -93,10 +93,10 @@ impl Backlog {
         }
     }
 
-    /// Announces a batch of requests, each of which will be two events, and waits while too many events wait.
-    pub fn announce<R: Wait>(&self, rt: &R) {
+    /// Announces requests, each of which will be two events, and waits while too many events wait.
+    pub fn announce<R: Wait>(&self, rt: &R, requests: u32) {
         let mut waiting = self.waiting.lock(rt);
-        let announced = waiting.announced.saturating_add(2 * u64::from(BATCH));
+        let announced = waiting.announced.saturating_add(2 * u64::from(requests));
         waiting.announced = announced;
         if waiting.count() >= ENOUGH {
             self.grown.notify_one();

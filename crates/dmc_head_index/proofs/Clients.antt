@@ -1,6 +1,6 @@
 -- What an index returns, in terms of the heads, and a head that is written.
-use Rattle.std.proofs.Common.{◌≡◌, ◌≢◌, ℕ, ◌<◌, List, Option, Some, None, length, set, sym, ap, ◌∙◌, inl, inr, false, is_some, IsSome, Bor}
-use Rattle.std.specs.Option.{option_map, option_copied, MatchOption}
+use Rattle.std.proofs.Common.{◌≡◌, ◌≢◌, ℕ, ◌<◌, List, Option, Some, None, length, set, sym, ap, ◌∙◌, inl, inr, false, is_some, IsSome}
+use Rattle.std.specs.Option.{option_map, MatchOption}
 use Rattle.std.specs.declared.cmp.Ordering.{Ordering}
 use Rattle.std.specs.declared.cmp.Ordering.TheVariants.{Equal}
 use Rattle.std.proofs.lemmas.Bool.{cases_eq, eqb-false}
@@ -32,9 +32,8 @@ module _ {T R : Type 0} (rank : Head T → R) (heads : List (Option (Head T))) (
   is_vacant key h = ranks key ∙ ap (option_map rank) h
 
   -- what is read at a key
-  pub rank_read : (key : ℕ) (h : Head T) → slot_of_key heads key ≡ Some h → {found : Option (Bor R)} {r : Bor R} → option_copied found ≡ slot_of_key slots key → found ≡ Some r → r.now ≡ rank h
-  rank_read key h e {r = r} copied some =
-      same_Some r.now (rank h) (sym (ap option_copied some) ∙ copied ∙ rank_held key h e)
+  pub rank_read : (key : ℕ) (h : Head T) → slot_of_key heads key ≡ Some h → {found : Option R} {r : R} → found ≡ slot_of_key slots key → found ≡ Some r → r ≡ rank h
+  rank_read key h e {r = r} held some = same_Some r (rank h) (sym some ∙ held ∙ rank_held key h e)
 
   -- a rank of a client that no other key has is apart from those of the other keys
   pub rank_apart : (compare : R → R → Ordering) (client_of : R → ClientId) → ((h : Head T) → client_of (rank h) ≡ h.client) → ((a b : R) → compare a b ≡ Equal → client_cmp (client_of a) (client_of b) ≡ Equal) → (key : ℕ) (client : ClientId) → IsOthers heads key client → (x : R) → client_of x ≡ client → IsApartFromOthers compare slots key x

@@ -1,29 +1,21 @@
 -- Finite maps from keys, as lists of what each key below a capacity holds.
-use Rattle.std.proofs.Common.{◌≡◌, ℕ, zero, suc, ◌+◌, ◌<◌, ◌≤◌, List, [], ◌∷◌, map, Option, Some, None, length, set, count_by, is_some, cond, refl, sym, ap, ◌∙◌, inl, inr, arith, Bor, IsSome}
-use Rattle.std.specs.Option.{option_map, option_copied}
+use Rattle.std.proofs.Common.{◌≡◌, ℕ, zero, suc, ◌+◌, ◌<◌, ◌≤◌, List, [], ◌∷◌, Option, Some, None, length, set, count_by, is_some, cond, refl, sym, ap, ◌∙◌, inl, inr, arith, IsSome}
+use Rattle.std.specs.Option.{option_map}
 use Rattle.std.proofs.lemmas.Bool.{cases_lt, cases_eq}
 use Rattle.std.proofs.lemmas.List.Sums.{sum_by-cons}
 use Rattle.std.proofs.lemmas.List.{get_or_past, get_or-set_same}
 use Rattle.dmc_index.specs.Index.{slot_of_key}
 use Rattle.dmc_lemmas.proofs.Options.{option_cases}
 pub use Rattle.dmc_lemmas.proofs.Options.{is_some_mapped}
-pub use Rattle.dmc_index.proofs.Slots.{same_slots, slot_of_key-more, slot_of_key-set_other, slot_of_key-map}
+pub use Rattle.dmc_index.proofs.Slots.{same_slots, slot_of_key-more, slot_of_key-set_other, slot_of_key-map, some_if_mapped, map_set}
 
 pub some_of : {X : Type 0} (o : Option X) → IsSome o → (x : X) × (o ≡ Some x)
 some_of None h = cc
 some_of (Some x) h = (x, refl)
 
-pub some_if_mapped : {X Y : Type 0} (f : X → Y) (o : Option X) (y : Y) → option_map f o ≡ Some y → (x : X) × (o ≡ Some x) × (f x ≡ y)
-some_if_mapped f None y e = cc
-some_if_mapped f (Some x) y e = let same : f x ≡ y = cc in (x, refl, same)
-
 pub none_if_mapped : {X Y : Type 0} (f : X → Y) (o : Option X) → option_map f o ≡ None → o ≡ None
 none_if_mapped f None e = refl
 none_if_mapped f (Some x) e = cc
-
-pub some_if_copied : {X : Type 0} (found : Option (Bor X)) (o : Option X) → option_copied found ≡ o → IsSome o → IsSome found
-some_if_copied None o e h = ap is_some e ∙ h
-some_if_copied (Some x) o e h = refl
 
 module _ {X : Type 0} where
   -- a key that holds something is below the capacity
@@ -60,12 +52,6 @@ module _ {X Y : Type 0} where
       let first : ◌≡◌ {A = ℕ} (cond (is_some x) 1 0) (cond (is_some y) 1 0) = ap (λ b. cond b 1 0) (h 0) in
       let rest = count_same xs ys (λ key. h (suc key)) in
       omega (arith, first, rest, sum_by-cons (λ (o : Option X). cond (is_some o) 1 0) x xs, sum_by-cons (λ (o : Option Y). cond (is_some o) 1 0) y ys)
-
--- what a map makes of one key
-pub map_set : {X Y : Type 0} (f : X → Y) (slots : List (Option X)) (key : ℕ) (o : Option X) → map (option_map f) (set slots key o) ≡ set (map (option_map f) slots) key (option_map f o)
-map_set f [] key o = refl
-map_set f (x ∷ slots) zero o = refl
-map_set f (x ∷ slots) (suc key) o = ap (λ zs. option_map f x ∷ zs) (map_set f slots key o)
 
 -- ---- a pass over the keys, which maps what each holds
 

@@ -1,6 +1,6 @@
 -- A call that writes one head into the three indexes: what the calls in it need, and what they make.
-use Rattle.std.proofs.Common.{◌≡◌, ℕ, ◌<◌, ◌==◌, Bool, List, Option, Some, None, Bor, IsSome, is_some, length, set, count_by, refl, sym, ap, ◌∙◌, subst}
-use Rattle.std.specs.Option.{option_map, option_copied}
+use Rattle.std.proofs.Common.{◌≡◌, ℕ, ◌<◌, ◌==◌, Bool, List, Option, Some, None, IsSome, is_some, length, set, count_by, refl, sym, ap, ◌∙◌, subst}
+use Rattle.std.specs.Option.{option_map}
 use Rattle.std.specs.declared.cmp.Ordering.{Ordering}
 use Rattle.std.specs.Cmp.{IsTotalOrder}
 use Rattle.std.proofs.lemmas.Option.{same_Some}
@@ -120,11 +120,11 @@ module _ {T : Type 0} {ops : Tagging T} {reservation : List (Option (TagRank T))
         same_sound reservation_set limits_set ready_set ops room n
         (inserted ops reservation limits ready least room sound order key in_room h vacant' others' first (empty_if ops reservation limits ready least room sound first count))
 
-    pub changed_sound : IsTotalOrder ops.compare → option_map (λ (h : Head T). h.client) (slot_of_key heads key) ≡ Some h.client → {found : Option (Bor (ReadyRank T))} {rank : Bor (ReadyRank T)} → option_copied found ≡ slot_of_key ready key → found ≡ Some rank → {least' : Option T} → least' ≡ least_after ops least rank.now.tag h.tags.p → IsSound ops reservation' limits' ready' least' room
-    changed_sound order here {rank = rank} copied some n =
+    pub changed_sound : IsTotalOrder ops.compare → option_map (λ (h : Head T). h.client) (slot_of_key heads key) ≡ Some h.client → {found : Option (ReadyRank T)} {rank : ReadyRank T} → found ≡ slot_of_key ready key → found ≡ Some rank → {least' : Option T} → least' ≡ least_after ops least rank.tag h.tags.p → IsSound ops reservation' limits' ready' least' room
+    changed_sound order here {rank = rank} held some n =
         let was = heads_from reservation limits ready in
         let old = some_if_mapped (λ (h : Head T). h.client) (slot_of_key was key) h.client (subst (λ hs. option_map (λ (h : Head T). h.client) (slot_of_key hs key) ≡ Some h.client) (sym view) here) in
-        let rank_is : rank.now ≡ ready_rank old.0 = rank_read ready_rank was ready sound.weight_is key old.0 old.1 copied some in
+        let rank_is : rank ≡ ready_rank old.0 = rank_read ready_rank was ready sound.weight_is key old.0 old.1 held some in
         same_sound reservation_set limits_set ready_set ops room (n ∙ ap (λ (x : ReadyRank T). least_after ops least x.tag h.tags.p) rank_is)
         (changed ops reservation limits ready least room sound order key (within was key old.0 old.1) old.0 old.1 h old.2)
 
@@ -142,27 +142,27 @@ module _ {T : Type 0} {ops : Tagging T} {reservation : List (Option (TagRank T))
 
   -- ---- another ready mark
 
-  module _ (key : ℕ) (here : IsSome (slot_of_key heads key)) (mark : Bool) {found_limit : Option (Bor (LimitRank T))} {limit : Bor (LimitRank T)} (limit_copied : option_copied found_limit ≡ slot_of_key limits key) (limit_some : found_limit ≡ Some limit) where
+  module _ (key : ℕ) (here : IsSome (slot_of_key heads key)) (mark : Bool) {found_limit : Option (LimitRank T)} {limit : LimitRank T} (limit_held : found_limit ≡ slot_of_key limits key) (limit_some : found_limit ≡ Some limit) where
     old : (h : Head T) × (slot_of_key heads key ≡ Some h)
     old = some_of (slot_of_key heads key) here
 
     old_others : IsOthers heads key (old.0).client
     old_others = subst AreApart view sound.apart key old.0 old.1
 
-    limit_marked : record (limit.now) { ready = mark } ≡ limit_rank (with_ready mark old.0)
-    limit_marked = ap (λ (x : LimitRank T). record x { ready = mark }) (rank_read limit_rank heads limits in_limit key old.0 old.1 limit_copied limit_some)
+    limit_marked : record limit { ready = mark } ≡ limit_rank (with_ready mark old.0)
+    limit_marked = ap (λ (x : LimitRank T). record x { ready = mark }) (rank_read limit_rank heads limits in_limit key old.0 old.1 limit_held limit_some)
 
-    pub marked_limit_apart : (compare : T → T → Ordering) → IsApartFromOthers (limit_rank_cmp compare) limits key (record (limit.now) { ready = mark })
+    pub marked_limit_apart : (compare : T → T → Ordering) → IsApartFromOthers (limit_rank_cmp compare) limits key (record limit { ready = mark })
     marked_limit_apart compare = limit_apart compare key (with_ready mark old.0) old_others limit_marked
 
-    module _ {found_share : Option (Bor (ReadyRank T))} {share : Bor (ReadyRank T)} (share_copied : option_copied found_share ≡ slot_of_key ready key) (share_some : found_share ≡ Some share) where
-      share_marked : record (share.now) { ready = mark } ≡ ready_rank (with_ready mark old.0)
-      share_marked = ap (λ (x : ReadyRank T). record x { ready = mark }) (rank_read ready_rank heads ready in_weight key old.0 old.1 share_copied share_some)
+    module _ {found_share : Option (ReadyRank T)} {share : ReadyRank T} (share_held : found_share ≡ slot_of_key ready key) (share_some : found_share ≡ Some share) where
+      share_marked : record share { ready = mark } ≡ ready_rank (with_ready mark old.0)
+      share_marked = ap (λ (x : ReadyRank T). record x { ready = mark }) (rank_read ready_rank heads ready in_weight key old.0 old.1 share_held share_some)
 
-      pub marked_share_apart : (compare : T → T → Ordering) → IsApartFromOthers (ready_rank_cmp compare) ready key (record (share.now) { ready = mark })
+      pub marked_share_apart : (compare : T → T → Ordering) → IsApartFromOthers (ready_rank_cmp compare) ready key (record share { ready = mark })
       marked_share_apart compare = weight_apart compare key (with_ready mark old.0) old_others share_marked
 
-      module _ (order : IsTotalOrder ops.compare) {limits' : List (Option (LimitRank T))} {ready' : List (Option (ReadyRank T))} (l : limits' ≡ set limits key (Some (record (limit.now) { ready = mark }))) (r : ready' ≡ set ready key (Some (record (share.now) { ready = mark }))) where
+      module _ (order : IsTotalOrder ops.compare) {limits' : List (Option (LimitRank T))} {ready' : List (Option (ReadyRank T))} (l : limits' ≡ set limits key (Some (record limit { ready = mark }))) (r : ready' ≡ set ready key (Some (record share { ready = mark }))) where
         was : slot_of_key (heads_from reservation limits ready) key ≡ Some old.0
         was = ap (λ hs. slot_of_key hs key) view ∙ old.1
 

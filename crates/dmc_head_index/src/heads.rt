@@ -101,22 +101,22 @@ impl<T: Tag, I: Indexes<T>> Heads<T, I> {
     }
 
     /// The key of the least R, and the rank. An absent R is last.
-    pub fn least_by_reservation(&self) -> Option<(usize, &TagRank<T>)>
-        ensures { MatchOption result (IsEmpty self.now) (λ p. IsFirst heads_of.tag_rank (tag_rank_cmp T.ops.compare) self.now p.0 p.1.now) }
+    pub fn least_by_reservation(&self) -> Option<(usize, TagRank<T>)>
+        ensures { MatchOption result (IsEmpty self.now) (λ p. IsFirst heads_of.tag_rank (tag_rank_cmp T.ops.compare) self.now p.0 p.1) }
     {
         self.reservation.least()
     }
 
     /// The key of the least L of the unready heads, or of all if none is unready, and the rank.
-    pub fn least_by_limit(&self) -> Option<(usize, &LimitRank<T>)>
-        ensures { MatchOption result (IsEmpty self.now) (λ p. IsFirst heads_of.limit_rank (limit_rank_cmp T.ops.compare) self.now p.0 p.1.now) }
+    pub fn least_by_limit(&self) -> Option<(usize, LimitRank<T>)>
+        ensures { MatchOption result (IsEmpty self.now) (λ p. IsFirst heads_of.limit_rank (limit_rank_cmp T.ops.compare) self.now p.0 p.1) }
     {
         self.limit.least()
     }
 
     /// The key of the least P of the ready heads, or of all if none is ready, and the rank.
-    pub fn least_by_weight(&self) -> Option<(usize, &ReadyRank<T>)>
-        ensures { MatchOption result (IsEmpty self.now) (λ p. IsFirst heads_of.ready_rank (ready_rank_cmp T.ops.compare) self.now p.0 p.1.now) }
+    pub fn least_by_weight(&self) -> Option<(usize, ReadyRank<T>)>
+        ensures { MatchOption result (IsEmpty self.now) (λ p. IsFirst heads_of.ready_rank (ready_rank_cmp T.ops.compare) self.now p.0 p.1) }
     {
         self.weight.least()
     }
@@ -210,8 +210,8 @@ impl<T: Tag, I: Indexes<T>> Heads<T, I> {
         requires { IsSome (slot_of_key self.old key) }
         ensures { self.new ≡ slice_set self.old key (option_map (marks_of.with_ready ready) (slot_of_key self.old key)) }
     {
-        let limit = *self.limit.get(key).unwrap();
-        let share = *self.weight.get(key).unwrap();
+        let limit = self.limit.get(key).unwrap();
+        let share = self.weight.get(key).unwrap();
         self.limit.change(key, LimitRank { ready, ..limit });
         self.weight.change(key, ReadyRank { ready, ..share });
     }

@@ -48,7 +48,7 @@ fn copy_key<R: Rank>(list: &SlidingIndex<R>, key: usize, heap: &mut IndexedHeap<
     ensures room { length heap.new ≡ length heap.old }
 {
     if let Some(rank) = list.get(key) {
-        heap.insert(key, *rank);
+        heap.insert(key, rank);
     }
 }
 
@@ -113,14 +113,14 @@ impl<R: Rank> OrderIndex<R> for AdaptiveIndex<R> {
         }
     }
 
-    fn get(&self, key: usize) -> Option<&R> {
+    fn get(&self, key: usize) -> Option<R> {
         match &self.form {
             Form::Few(list) => list.get(key),
             Form::Many(heap) => heap.get(key),
         }
     }
 
-    fn least(&self) -> Option<(usize, &R)> {
+    fn least(&self) -> Option<(usize, R)> {
         match &self.form {
             Form::Few(list) => list.least(),
             Form::Many(heap) => heap.least(),

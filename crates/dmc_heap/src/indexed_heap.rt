@@ -189,15 +189,15 @@ impl<R: Rank> OrderIndex<R> for IndexedHeap<R> {
         removed.rank
     }
 
-    fn get(&self, key: usize) -> Option<&R> {
+    fn get(&self, key: usize) -> Option<R> {
         let place = *self.places.get(key)?;
         let entry = self.heap.get(place)?;
-        Some(&entry.rank)
+        Some(entry.rank)
     }
 
-    fn least(&self) -> Option<(usize, &R)> {
+    fn least(&self) -> Option<(usize, R)> {
         let first = self.heap.first()?;
-        Some((first.key, &first.rank))
+        Some((first.key, first.rank))
     }
 
     fn map_ranks<F: Fn(R) -> R>(&mut self, f: F) {

@@ -11,6 +11,16 @@ slot_of_key-map f [] key = refl
 slot_of_key-map f (x ∷ slots) zero = refl
 slot_of_key-map f (x ∷ slots) (suc key) = slot_of_key-map f slots key
 
+pub some_if_mapped : {X Y : Type 0} (f : X → Y) (o : Option X) (y : Y) → option_map f o ≡ Some y → (x : X) × (o ≡ Some x) × (f x ≡ y)
+some_if_mapped f None y e = cc
+some_if_mapped f (Some x) y e = let same : f x ≡ y = cc in (x, refl, same)
+
+-- what a map makes of one key
+pub map_set : {X Y : Type 0} (f : X → Y) (slots : List (Option X)) (key : ℕ) (o : Option X) → map (option_map f) (set slots key o) ≡ set (map (option_map f) slots) key (option_map f o)
+map_set f [] key o = refl
+map_set f (x ∷ slots) zero o = refl
+map_set f (x ∷ slots) (suc key) o = ap (λ zs. option_map f x ∷ zs) (map_set f slots key o)
+
 module _ {X : Type 0} where
   pub slot_of_key-replicate : (n key : ℕ) → slot_of_key {R = X} (replicate n None) key ≡ None
   slot_of_key-replicate n key = ⊎_elim (λ l. get_or-replicate n key None None l) (λ l. get_or_past (replicate n None) key None (rw length-replicate l)) (cases_lt key n)

@@ -1,5 +1,5 @@
 //! What an index over ranks promises.
-ghost use Rattle.std.specs.Prelude.{◌≡◌, ℕ, ◌-◌, ◌≤◌, ◌<◌, ◌++◌, ◌==◌, List, [], Option, Some, None, MatchOption, OnOk, OnErr, IsOk, IsSome, length, replicate, count_by, is_some, slice_set, option_copied};
+ghost use Rattle.std.specs.Prelude.{◌≡◌, ℕ, ◌-◌, ◌≤◌, ◌<◌, ◌++◌, ◌==◌, List, [], Option, Some, None, MatchOption, OnOk, OnErr, IsOk, IsSome, length, replicate, count_by, is_some, slice_set};
 ghost use Rattle.dmc_index.specs.Index.{slot_of_key, IsEmpty, IsApart, IsApartFromOthers, AreApart, IsLeast, KeepsOrder, IsMapped};
 
 use dmc_tag::rank::{LimitRank, Rank, ReadyRank, TagRank};
@@ -42,12 +42,12 @@ pub trait OrderIndex<R: Rank>: Drop {
         ensures rest { slots self.new ≡ slice_set (slots self.old) key None };
 
     /// The rank of a key, if it has one.
-    fn get(&self, key: usize) -> Option<&R>
-        ensures { option_copied result ≡ slot_of_key (slots self.now) key };
+    fn get(&self, key: usize) -> Option<R>
+        ensures { result ≡ slot_of_key (slots self.now) key };
 
     /// The key whose rank is below all others, and that rank.
-    fn least(&self) -> Option<(usize, &R)>
-        ensures { MatchOption result (IsEmpty (slots self.now)) (λ p. IsLeast R.cmp (slots self.now) p.0 p.1.now) };
+    fn least(&self) -> Option<(usize, R)>
+        ensures { MatchOption result (IsEmpty (slots self.now)) (λ p. IsLeast R.cmp (slots self.now) p.0 p.1) };
 
     /// Maps every rank by `f`, which keeps their order. The keys stay.
     fn map_ranks<F: Fn(R) -> R>(&mut self, f: F)

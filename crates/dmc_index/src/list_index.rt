@@ -106,14 +106,14 @@ impl<R: Rank> OrderIndex<R> for ListIndex<R> {
         self.entries.remove(at).rank
     }
 
-    fn get(&self, key: usize) -> Option<&R> {
+    fn get(&self, key: usize) -> Option<R> {
         let at = place_of(&self.entries, key)?;
-        Some(&self.entries[at].rank)
+        Some(self.entries[at].rank)
     }
 
-    fn least(&self) -> Option<(usize, &R)> {
+    fn least(&self) -> Option<(usize, R)> {
         let first = self.entries.first()?;
-        Some((first.key, &first.rank))
+        Some((first.key, first.rank))
     }
 
     fn map_ranks<F: Fn(R) -> R>(&mut self, f: F) {

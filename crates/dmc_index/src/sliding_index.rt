@@ -149,14 +149,14 @@ impl<R: Rank> OrderIndex<R> for SlidingIndex<R> {
         taken.rank
     }
 
-    fn get(&self, key: usize) -> Option<&R> {
+    fn get(&self, key: usize) -> Option<R> {
         let at = place_of(&self.entries[self.start..], key)?;
-        Some(&self.entries[self.start + at].rank)
+        Some(self.entries[self.start + at].rank)
     }
 
-    fn least(&self) -> Option<(usize, &R)> {
+    fn least(&self) -> Option<(usize, R)> {
         let first = self.entries.get(self.start)?;
-        Some((first.key, &first.rank))
+        Some((first.key, first.rank))
     }
 
     fn map_ranks<F: Fn(R) -> R>(&mut self, f: F) {

@@ -1,6 +1,6 @@
 -- The P tags stay in their range if requests are taken back.
-use Rattle.std.proofs.Common.{◌≡◌, ℕ, List, [], ◌∷◌, ◌++◌, map, Option, Some, None, sym, ap, ◌∙◌, subst}
-use Rattle.std.specs.Prelude.{◌==◌, slice_get}
+use Rattle.std.proofs.Common.{◌≡◌, ℕ, List, [], ◌∷◌, ◌++◌, map, Option, Some, None, sym, subst}
+use Rattle.std.specs.Prelude.{slice_get}
 use Rattle.std.specs.Cmp.{IsTotalOrder}
 use Rattle.std.specs.List.{AllByRecursion}
 use Rattle.std.specs.Option.{option_map}
@@ -11,7 +11,7 @@ use Rattle.dmc_tag.specs.declared.plain.QueuedRequest.{QueuedRequest}
 use Rattle.dmc_tag.specs.declared.reply.Tags.{Tags}
 use Rattle.dmc_client.specs.Order.{InOrder}
 use Rattle.dmc_client.specs.Record.{Rec, IsRecord}
-use Rattle.dmc_roster.specs.Entries.{Entry, entry_keyed, with_record}
+use Rattle.dmc_roster.specs.Entries.{Entry, with_record}
 use Rattle.dmc_pull.specs.internal.Range.{with_share, with_shares_between}
 use Rattle.dmc_pull.specs.internal.ShareRange.{IsWithin, HasSharesIn, AreWithin}
 use Rattle.dmc_pull.specs.declared.range.ShareRange.{ShareRange}

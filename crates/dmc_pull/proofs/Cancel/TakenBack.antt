@@ -1,5 +1,5 @@
 -- The queue after a client's requests with a token were taken back.
-use Rattle.std.proofs.Common.{◌≡◌, ℕ, suc, ◌+◌, ◌-◌, ◌≤◌, ◌<◌, Bool, true, false, not, List, [], ◌∷◌, map, length, Option, Some, None, refl, sym, ap, ◌∙◌, subst, arith}
+use Rattle.std.proofs.Common.{◌≡◌, ℕ, ◌+◌, ◌-◌, ◌<◌, true, List, [], ◌∷◌, length, Option, Some, None, refl, sym, ap, ◌∙◌, subst, arith}
 use Rattle.std.specs.Prelude.{◌==◌, slice_get, slice_set, filter, if◌then◌else◌, Ok}
 use Rattle.std.proofs.lemmas.Bool.{eqb-true, ne_eqb}
 use Rattle.std.specs.Cmp.{IsTotalOrder}
@@ -11,7 +11,6 @@ use Rattle.dmc_types.specs.declared.ids.ClientId.{ClientId}
 use Rattle.dmc_types.specs.declared.ids.Token.{Token}
 use Rattle.dmc_types.specs.declared.refusal.Refusal.TheVariants.{Unknown}
 use Rattle.dmc_types.specs.declared.command.Command.TheVariants.{Cancel}
-use Rattle.dmc_tag.specs.Best.{is_due}
 use Rattle.dmc_tag.specs.Cancel.{has_token, charges_of, charged_to, no_befores, staying}
 use Rattle.dmc_tag.specs.Cancel as rules_of
 use Rattle.dmc_tag.specs.Rules.{change_client}
@@ -26,15 +25,15 @@ use Rattle.dmc_tag.specs.declared.reply.Tags.{Tags}
 use Rattle.dmc_client.specs.Record.{Rec, IsRecord, client_of, share_tags, without_token}
 use Rattle.dmc_client.proofs.TakenBack.{both_counted}
 use Rattle.dmc_client.proofs.TakenOrder.{shares_are_values}
-use Rattle.dmc_roster.specs.Entries.{Entry, Listing, entry_keyed, record_at, with_record, with_record_at}
+use Rattle.dmc_roster.specs.Entries.{Entry, with_record, with_record_at}
 use Rattle.dmc_index.specs.Index.{slot_of_key}
 use Rattle.dmc_head_index.specs.declared.head.Head.{Head}
 use Rattle.dmc_pull.specs.Represented.{clients_in}
-use Rattle.dmc_pull.specs.Queue.{Queue, state_of, IsQueue, IsKept, AreHeads, head_of, unready, unready_head}
+use Rattle.dmc_pull.specs.Queue.{Queue, state_of, IsQueue, IsKept, head_of, unready, unready_head}
 use Rattle.dmc_pull.specs.internal.Queue.{head_at}
 use Rattle.dmc_pull.proofs.Common.Parts.{found_holds}
 use Rattle.dmc_pull.proofs.Common.Entries.{key_is, all_changed, changed_client, count_changed}
-use Rattle.dmc_pull.proofs.Common.Keyed.{distinct_changed, record_is}
+use Rattle.dmc_pull.proofs.Common.Keyed.{distinct_changed}
 use Rattle.dmc_pull.proofs.Common.Replaced.{replaced, set_length, head_renewed, head_due}
 use Rattle.dmc_pull.proofs.Clients.Updating.{HasClient}
 

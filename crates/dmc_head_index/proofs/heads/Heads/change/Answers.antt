@@ -1,11 +1,11 @@
-use Rattle.dmc_head_index.proofs.Slots.{some_if_copied}
+use Rattle.std.proofs.Common.{is_some, ap, ◌∙◌}
 use Rattle.dmc_head_index.proofs.Clients.{tag_order}
 use Rattle.dmc_head_index.proofs.Writes.{reservation_held, limit_held, weight_held, reservation_apart, limit_apart, weight_apart, is_there, still_others, heads_written, changed_sound}
 use Rattle.dmc_head_index.proofs.heads.Heads.change.Goals as goal
 
-pub unwrap-requires : goal.unwrap-requires
-unwrap-requires g c =
-    some_if_copied c.get.result _ c.get.ensures (weight_held c.self.invariant c.self.view_is c.args.key (is_there c.self.invariant c.self.view_is c.args.key c.args.head c.requires.here))
+pub unwrap-old-requires : goal.unwrap-old-requires
+unwrap-old-requires g c =
+    ap is_some c.get.ensures ∙ weight_held c.self.invariant c.self.view_is c.args.key (is_there c.self.invariant c.self.view_is c.args.key c.args.head c.requires.here)
 
 pub change-requires-clause-here : goal.change-requires-clause-here
 change-requires-clause-here g c =
@@ -36,7 +36,7 @@ invariant_of-self g c =
     changed_sound c.self.invariant c.self.view_is c.args.key c.args.head
     c.tag_rank.ensures c.limit_rank.ensures c.ready_rank.ensures c.change.ensures c.change-2.ensures c.change-3.ensures
     (tag_order g.T.Ord.cmp g.T.Tag.ops.compare g.met.T.Ord.total g.met.T.Tag.compares)
-    c.requires.here c.get.ensures c.unwrap.ensures c.least_after-self-inside.ensures
+    c.requires.here c.get.ensures c.unwrap-old.ensures c.least_after-self-inside.ensures
 
 pub returns : goal.returns
 returns g c =

@@ -10,6 +10,6 @@ pub returns : goal.returns
 returns g c =
     let x = c.self.inside in
     let heads = heads_from (g.I.ReservationIndex.OrderIndex.slots x.reservation) (g.I.LimitIndex.OrderIndex.slots x.limit) (g.I.WeightIndex.OrderIndex.slots x.weight) in
-    let found = found_first tag_rank heads (g.I.ReservationIndex.OrderIndex.slots x.reservation) c.self.invariant.reservation_is (tag_rank_cmp g.T.Ord.cmp) (λ p. p.0) (λ p. p.1.now) c.least.result c.least.ensures in
+    let found = found_first tag_rank heads (g.I.ReservationIndex.OrderIndex.slots x.reservation) c.self.invariant.reservation_is (tag_rank_cmp g.T.Ord.cmp) (λ p. p.0) (λ p. p.1) c.least.result c.least.ensures in
     let same = same_compare g.T.Ord.cmp g.T.Tag.ops.compare g.met.T.Tag.compares in
-    subst (λ hs. MatchOption c.least.result (IsEmpty hs) (λ p. IsFirst tag_rank (tag_rank_cmp g.T.Tag.ops.compare) hs p.0 p.1.now)) c.self.view_is (subst (λ compare. MatchOption c.least.result (IsEmpty heads) (λ p. IsFirst tag_rank (tag_rank_cmp compare) heads p.0 p.1.now)) same found)
+    subst (λ hs. MatchOption c.least.result (IsEmpty hs) (λ p. IsFirst tag_rank (tag_rank_cmp g.T.Tag.ops.compare) hs p.0 p.1)) c.self.view_is (subst (λ compare. MatchOption c.least.result (IsEmpty heads) (λ p. IsFirst tag_rank (tag_rank_cmp compare) heads p.0 p.1)) same found)

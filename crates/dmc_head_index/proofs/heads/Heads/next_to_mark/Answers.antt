@@ -16,7 +16,7 @@ returns-then-rank g c =
     let heads = heads_from reservation limits ready in
     let order = tag_order g.T.Ord.cmp g.T.Tag.ops.compare g.met.T.Ord.total g.met.T.Tag.compares in
     let same = same_compare g.T.Ord.cmp g.T.Tag.ops.compare g.met.T.Tag.compares in
-    let least = c.in-Some.rank.now in
+    let least = c.in-Some.rank in
     let first = subst (λ compare. IsFirst limit_rank (limit_rank_cmp compare) heads c.in-Some.key least) same (is_first limit_rank heads limits c.self.invariant.limit_is (limit_rank_cmp g.T.Ord.cmp) c.in-Some.key least c.in-Some.ensures) in
     subst (λ hs. map (option_map (with_ready_mark g.T.Tag.ops c.args.t)) hs ≡ hs) c.self.view_is (elim c.then-rank.branch [
       | then-rank-via-then-rank w ↦ all_ready g.T.Tag.ops c.args.t order heads c.in-Some.key least first w.if-rank.true

@@ -1,15 +1,15 @@
-use Rattle.dmc_head_index.proofs.Slots.{some_if_copied}
+use Rattle.std.proofs.Common.{is_some, ap, ◌∙◌}
 use Rattle.dmc_head_index.proofs.Clients.{tag_order}
 use Rattle.dmc_head_index.proofs.Writes.{limit_held, weight_held, marked_limit_apart, marked_share_apart, heads_marked, marked_stays_sound}
 use Rattle.dmc_head_index.proofs.heads.Heads.set_ready.Goals as goal
 
 pub unwrap-limit-requires : goal.unwrap-limit-requires
 unwrap-limit-requires g c =
-    some_if_copied c.get.result _ c.get.ensures (limit_held c.self.invariant c.self.view_is c.args.key c.requires)
+    ap is_some c.get.ensures ∙ limit_held c.self.invariant c.self.view_is c.args.key c.requires
 
 pub unwrap-share-requires : goal.unwrap-share-requires
 unwrap-share-requires g c =
-    some_if_copied c.get-2.result _ c.get-2.ensures (weight_held c.self.invariant c.self.view_is c.args.key c.requires)
+    ap is_some c.get-2.ensures ∙ weight_held c.self.invariant c.self.view_is c.args.key c.requires
 
 pub change-requires-clause-here : goal.change-requires-clause-here
 change-requires-clause-here g c =

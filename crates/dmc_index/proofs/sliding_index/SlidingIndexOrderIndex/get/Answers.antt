@@ -1,5 +1,4 @@
 use Rattle.std.proofs.Common.{◌≡◌, ◌==◌, Some, drop, position, sym, ap, ◌∙◌}
-use Rattle.std.specs.Option.{option_copied}
 use Rattle.std.proofs.lemmas.List.{get_or-drop, take_rest}
 use Rattle.dmc_index.proofs.EntryLemmas.{held_found, held_not_found}
 use Rattle.dmc_index.proofs.sliding_index.SlidingIndexOrderIndex.get.Given.{Over}
@@ -14,7 +13,7 @@ returns-in_err-at g c =
     let x = c.self.inside in
     let none = held_not_found g.R.Rank.cmp g.met.R.Rank.total x.room _ (drop x.start x.entries.items) c.self.invariant.0 c.args.key
     (place g (goal.at.returns-in_err-at g c).After-place_of ∙ c.in_err-at.was) in
-    ap option_copied c.from_residual.ensures ∙ sym (rw c.self.view_is at none)
+    c.from_residual.ensures ∙ sym (rw c.self.view_is at none)
 
 pub returns : goal.returns
 returns g c =

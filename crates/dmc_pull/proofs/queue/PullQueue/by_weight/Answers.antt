@@ -13,5 +13,5 @@ pub returns-in-Some : goal.returns-in-Some
 returns-in-Some g c =
     let order = tag_order g.T.Ord.cmp g.T.Tag.ops.compare g.met.T.Ord.total g.met.T.Tag.compares in
     let marked = subst (IsMarked g.T.Tag.ops) (sym c.self.view_is) c.requires in
-    subst (λ v. ByWeight g.T.Tag.ops v.last_moment v.roster.entries (Some (c.in-Some.key, c.in-Some.rank.now.client, c.in-Some.rank.now.ready))) c.self.view_is
-    (least_shares order c.self.invariant.0 marked c.in-Some.key c.in-Some.rank.now c.in-Some.ensures)
+    subst (λ v. ByWeight g.T.Tag.ops v.last_moment v.roster.entries (Some (c.in-Some.key, c.in-Some.rank.client, c.in-Some.rank.ready))) c.self.view_is
+    (least_shares order c.self.invariant.0 marked c.in-Some.key c.in-Some.rank c.in-Some.ensures)

@@ -15,10 +15,10 @@ returns-in-None g c =
 
 pub returns-then-is_due : goal.returns-then-is_due
 returns-then-is_due g c =
-    subst (λ v. Early g.T.Tag.ops c.args.at v.roster.entries (Some (c.in-Some.key, c.in-Some.rank.now.client))) c.self.view_is
-    (least_early (order g) c.self.invariant.0 c.args.at c.in-Some.key c.in-Some.rank.now c.in-Some.ensures (sym c.if-is_due.ensures))
+    subst (λ v. Early g.T.Tag.ops c.args.at v.roster.entries (Some (c.in-Some.key, c.in-Some.rank.client))) c.self.view_is
+    (least_early (order g) c.self.invariant.0 c.args.at c.in-Some.key c.in-Some.rank c.in-Some.ensures (sym c.if-is_due.ensures))
 
 pub returns-else-is_due : goal.returns-else-is_due
 returns-else-is_due g c =
     subst (λ v. Early g.T.Tag.ops c.args.at v.roster.entries None) c.self.view_is
-    (least_late (order g) c.self.invariant.0 c.args.at c.in-Some.key c.in-Some.rank.now c.in-Some.ensures (sym c.if-is_due.ensures))
+    (least_late (order g) c.self.invariant.0 c.args.at c.in-Some.key c.in-Some.rank c.in-Some.ensures (sym c.if-is_due.ensures))

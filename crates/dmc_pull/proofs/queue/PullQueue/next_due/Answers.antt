@@ -14,7 +14,7 @@ use Rattle.dmc_pull.proofs.queue.PullQueue.next_due.Goals as goal
 use Rattle.dmc_pull.proofs.queue.PullQueue.next_due.Goals.{In-Some-least_by_reservation}
 
 -- what both answers of a queue with a request are: the earlier of the two least moments
-least : (g : Over) (c : In-Some-least_by_reservation g) (m : ℕ) → m ≡ earlier c.due_moment-free.result (option_map (λ t. moment_of (g.T.Tag.ops.ceil t)) c.in-Some-least_by_reservation.reservation.now.tag)
+least : (g : Over) (c : In-Some-least_by_reservation g) (m : ℕ) → m ≡ earlier c.due_moment-free.result (option_map (λ t. moment_of (g.T.Tag.ops.ceil t)) c.in-Some-least_by_reservation.reservation.tag)
     → (first : QueuedRequest g.row.T.Denot) (rest : List (QueuedRequest g.row.T.Denot)) → queued_requests (clients_in c.self.inside.roster.entries) ≡ first ∷ rest → m ≡ least_due g.T.Tag.ops first rest
 least g c m is first rest whole =
     let ops = g.T.Tag.ops in
@@ -26,9 +26,9 @@ least g c m is first rest whole =
     let none_free : best_of_all ops by_weight (is_free ops q.last_moment) (clients_in es) ≡ None = subst (λ v. best_of_all ops by_weight (is_free ops v.last_moment) (clients_in v.roster.entries) ≡ None) (sym c.self.view_is) c.requires in
     let unmarked = all_unmarked ops q.last_moment es q.heads.0 are (not_found_has_none ops by_weight (is_free ops q.last_moment) (clients_in es) none_free) in
     is
-    ∙ ap (λ free. earlier free (option_map (λ t. moment_of (ops.ceil t)) c.in-Some-least_by_reservation.reservation.now.tag)) c.due_moment-free.ensures
+    ∙ ap (λ free. earlier free (option_map (λ t. moment_of (ops.ceil t)) c.in-Some-least_by_reservation.reservation.tag)) c.due_moment-free.ensures
     ∙ next_due ops order (due_from_ceil ops g.T.Tag.fraction g.T.Tag.is_value g.met.T.Tag.exact) q.last_moment es q.heads.0 are c.self.invariant.0.distinct records unmarked
-    c.in-Some-least_by_reservation.field-0-0 c.in-Some-least_by_reservation.reservation.now c.in-Some-least_by_reservation.ensures c.in-Some.field-0-0 c.in-Some.limit.now c.in-Some.ensures first rest whole
+    c.in-Some-least_by_reservation.field-0-0 c.in-Some-least_by_reservation.reservation c.in-Some-least_by_reservation.ensures c.in-Some.field-0-0 c.in-Some.limit c.in-Some.ensures first rest whole
 
 pub returns-in_default : goal.returns-in_default
 returns-in_default g c = λ first rest whole.

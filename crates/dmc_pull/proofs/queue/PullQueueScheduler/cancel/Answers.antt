@@ -1,9 +1,9 @@
-use Rattle.std.proofs.Common.{◌≡◌, Some, length, sym, ap, ◌∙◌, subst, arith}
+use Rattle.std.proofs.Common.{◌≡◌, Some, length, sym, ap, ◌∙◌, arith}
 use Rattle.std.specs.Prelude.{◌==◌, ◌≤◌, filter, if◌then◌else◌, None}
 use Rattle.dmc_client.specs.Record.{Rec, without_token}
 use Rattle.dmc_tag.specs.Cancel.{has_token, charges_of}
 use Rattle.dmc_tag.proofs.ForCallers.{tag_order}
-use Rattle.dmc_pull.specs.Queue.{Queue, IsQueue, state_of}
+use Rattle.dmc_pull.specs.Queue.{Queue, state_of}
 use Rattle.dmc_pull.proofs.Clients.Updating.{HasClient, client_at, of_lent, unnamed}
 use Rattle.dmc_pull.proofs.Cancel.TakenBack.{fewer, head_is, none_queued, queue_is, step_is, refused_cancel}
 use Rattle.dmc_pull.proofs.Cancel.InRange.{taken_back_within}

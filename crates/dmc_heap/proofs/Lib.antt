@@ -2,3 +2,4 @@ pub mod LinkLemmas
 pub mod OrderLemmas
 pub mod SlotLemmas
 pub mod SoundLemmas
+pub mod PackedLemmas

@@ -22,6 +22,29 @@ pub trait Rank: Copy {
     ghost total: { IsTotalOrder cmp };
 }
 
+/// A rank in another form, which takes fewer bytes and is compared faster.
+pub trait PackedRank<R: Rank>: Rank {
+    /// The rank that is stored.
+    ghost rank_of: { Self → R };
+
+    /// What stores a rank.
+    ghost packed: { R → Self };
+
+    /// Stores a rank.
+    fn pack(rank: R) -> Self
+        ensures { result ≡ packed rank };
+
+    /// The stored rank.
+    fn rank(self) -> R
+        ensures { result ≡ rank_of self };
+
+    /// What stores a rank has that rank.
+    ghost stores: { (rank : R) → rank_of (packed rank) ≡ rank };
+
+    /// The order is that of the stored ranks.
+    ghost same_order: { (a b : Self) → Self.cmp a b ≡ R.cmp (rank_of a) (rank_of b) };
+}
+
 /// By tag, and then by client. An absent tag is last.
 #[derive(Copy, Debug)]
 pub struct TagRank<T> {

@@ -2,4 +2,5 @@
 #![tactic(auto)]
 
 pub mod examples;
+pub mod packed;
 pub mod tick;

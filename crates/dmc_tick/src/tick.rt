@@ -1,5 +1,5 @@
 //! The tick tag.
-ghost use Rattle.std.specs.Prelude.{◌≡◌, ◌*◌, ◌≤◌, ◌+ℤ◌, pos, true, unsigned_abs};
+ghost use Rattle.std.specs.Prelude.{◌≡◌, ◌*◌, ◌≤◌, ◌+ℤ◌, ◌-ℤ◌, pos, true, unsigned_abs};
 ghost use Rattle.std.proofs.Common.{refl};
 ghost use Rattle.std.proofs.lemmas.Cmp.{int_cmp_total};
 ghost use Rattle.std.specs.Cmp.{partial_order_from_agreeing_total, partial_equiv_from_equiv, eq_by_cmp_equiv};
@@ -42,9 +42,15 @@ impl Model for TickTag {
 const GREATEST: i128 = 1 << 90;
 
 /// How many numbers a word has.
-const WORD: u128 = 1 << 64;
+pub(crate) const WORD: u128 = 1 << 64;
 
 impl TickTag {
+    /// The tag 0.
+    pub(crate) const ZERO: TickTag = TickTag {
+        high: 1 << 26,
+        low: 0,
+    };
+
     /// The tag of this many ticks. `None` above 2^90 or below -2^90.
     pub fn new(ticks: i128) -> Option<TickTag>
         ensures { result ≡ tick ticks }
@@ -68,7 +74,14 @@ impl TickTag {
         requires { unsigned_abs ticks ≤ greatest }
         ensures { result ≡ ticks }
     {
-        let raised = (ticks + GREATEST) as u128;
+        TickTag::of_raised((ticks + GREATEST) as u128)
+    }
+
+    /// The tag of this many ticks plus 2^90.
+    pub(crate) fn of_raised(raised: u128) -> TickTag
+        requires { raised ≤ 2 * greatest }
+        ensures { result ≡ pos raised -ℤ pos greatest }
+    {
         TickTag {
             high: (raised / WORD) as u64,
             low: (raised % WORD) as u64,
@@ -76,7 +89,7 @@ impl TickTag {
     }
 
     /// The number of ticks plus 2^90.
-    fn raised(self) -> u128
+    pub(crate) fn raised(self) -> u128
         ensures value { pos result ≡ self +ℤ pos greatest }
         ensures bound { result ≤ 2 * greatest }
     {

@@ -7,6 +7,7 @@ ghost use Rattle.dmc_tag.specs.State.{queued_requests};
 
 use crate::fraction::{AsFraction, TagFraction, in_fractions};
 use dmc_heap::adaptive_index::HeapIndexes;
+use dmc_heap::tick_indexes::TickIndexes;
 use dmc_index::index::Indexes;
 use dmc_pull::queue::PullQueue;
 use dmc_ratio::ratio::RatioTag;
@@ -26,7 +27,7 @@ struct Droppable<P>(P);
 /// A queue over heaps, by its tags.
 #[derive(Drop)]
 enum Queue {
-    Tick(Droppable<PullQueue<TickTag, HeapIndexes>>),
+    Tick(Droppable<PullQueue<TickTag, TickIndexes>>),
     Ratio(Droppable<PullQueue<RatioTag, HeapIndexes>>),
 }
 

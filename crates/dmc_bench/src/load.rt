@@ -9,8 +9,8 @@ use crate::queues::{HZ, serve_deep, serve_queue};
 use crate::shards::{serve_shards, shard_book_count};
 use crate::sharing::serve_shared;
 use crate::sums::sum_tags;
-use dmc_heap::adaptive_index::HeapIndexes;
 use dmc_heap::indexed_heap::IndexedHeap;
+use dmc_heap::tick_indexes::TickIndexes;
 use dmc_index::index::Indexes;
 use dmc_index::list_index::{ListIndex, ListIndexes};
 use dmc_ledger::mint::Blank;
@@ -125,8 +125,8 @@ pub fn run_load<R: Threads + Wait + Sync>(
     match load.kind {
         Kind::PlainQueue => run_plain::<TickTag>(rt, load),
         Kind::ListQueue => run_indexed::<TickTag, ListIndexes>(rt, load),
-        Kind::SharedQueue => run_shared::<TickTag, R>(rt, threads, load),
-        Kind::ShardedServer => run_shards::<TickTag, R>(rt, threads, load),
+        Kind::SharedQueue => run_shared::<R>(rt, threads, load),
+        Kind::ShardedServer => run_shards::<R>(rt, threads, load),
         Kind::ListIndex => use_index::<ListIndex<TagRank<TickTag>>>(rt, load),
         Kind::HeapIndex => use_index::<IndexedHeap<TagRank<TickTag>>>(rt, load),
         Kind::Ticks => sum_tags::<TickTag>(rt, load, TickTag::new(333), TickTag::new(167)),
@@ -136,7 +136,7 @@ pub fn run_load<R: Threads + Wait + Sync>(
             RatioTag::new(1000, 3),
             RatioTag::new(1001, 6),
         ),
-        _ => run_any::<TickTag, HeapIndexes, R>(rt, threads, load),
+        _ => run_any::<TickTag, TickIndexes, R>(rt, threads, load),
     }
 }
 
@@ -207,23 +207,23 @@ fn run_warm<T: Tag, I: Indexes<T>, R: Wait>(
 }
 
 /// Runs the load of a lock that threads share.
-fn run_shared<T: Tag + Send, R: Threads + Wait + Sync>(
+fn run_shared<R: Threads + Wait + Sync>(
     rt: &HostRuntime,
     threads: &R,
     load: Load,
 ) -> Result<u64, Fault> {
     let blank = Blank::new(book_count(load.clients, load.clients)?);
-    serve_shared::<T, Brand, R>(rt, threads, load, blank)
+    serve_shared::<Brand, R>(rt, threads, load, blank)
 }
 
 /// Runs the load of a server of shards that threads share.
-fn run_shards<T: Tag + Send, R: Threads + Wait + Sync>(
+fn run_shards<R: Threads + Wait + Sync>(
     rt: &HostRuntime,
     threads: &R,
     load: Load,
 ) -> Result<u64, Fault> {
     let blank = Blank::new(shard_book_count(load)?);
-    serve_shards::<T, Brand, R>(rt, threads, load, blank)
+    serve_shards::<Brand, R>(rt, threads, load, blank)
 }
 
 /// A checksum with one more result in it.

@@ -8,7 +8,7 @@ use crate::load::Load;
 use crate::watch::{add_since, print, start};
 use dmc_book::book::QueueBook;
 use dmc_book::pass::WorkerPass;
-use dmc_heap::adaptive_index::HeapIndexes;
+use dmc_heap::tick_indexes::TickIndexes;
 use dmc_index::index::Indexes;
 use dmc_ledger::desk::ClientDesk;
 use dmc_ledger::mint::{Blank, Mint};
@@ -19,6 +19,7 @@ use dmc_sharded::lock::ArrivalLock;
 use dmc_sharded::server::ShardedServer;
 use dmc_tag::reply::Pulled;
 use dmc_tag::tag::Tag;
+use dmc_tick::tick::TickTag;
 use dmc_tracker::tracker::ServiceTracker;
 use dmc_types::command::Command;
 use dmc_types::config::Counting;
@@ -78,7 +79,7 @@ pub fn shard_book_count(load: Load) -> Result<u64, Fault>
 
 /// As many threads as clients share the rounds: each stamps a request of its own client, lets it come in at one of the shards, and
 /// pulls one there. Returns how many requests were granted.
-pub fn serve_shards<T: Tag + Send, S: Setup + Send + Sync, R: Threads + Wait + Sync>(
+pub fn serve_shards<S: Setup + Send + Sync, R: Threads + Wait + Sync>(
     rt: &HostRuntime,
     threads: &R,
     load: Load,
@@ -87,7 +88,7 @@ pub fn serve_shards<T: Tag + Send, S: Setup + Send + Sync, R: Threads + Wait + S
     requires { blank.name ≡ S.name }
 {
     let mut mint = blank.open::<S>();
-    let (server, mut jobs) = open_shards::<T, HeapIndexes, S, R>(
+    let (server, mut jobs) = open_shards::<TickTag, TickIndexes, S, R>(
         rt.alloc(),
         threads,
         &mut mint,
@@ -249,10 +250,10 @@ fn extend_all<T: Tag, I: Indexes<T>, S: Setup, R: Wait>(
 }
 
 /// Runs all jobs.
-fn serve_jobs<T: Tag + Send, S: Setup + Send + Sync, R: Threads + Wait + Sync>(
+fn serve_jobs<S: Setup + Send + Sync, R: Threads + Wait + Sync>(
     rt: &HostRuntime,
     threads: &R,
-    server: &Server<T, HeapIndexes, S>,
+    server: &Server<TickTag, TickIndexes, S>,
     jobs: &mut [Job<S>],
     load: Load,
 ) -> Result<u64, Fault> {
@@ -267,9 +268,9 @@ fn serve_jobs<T: Tag + Send, S: Setup + Send + Sync, R: Threads + Wait + Sync>(
 }
 
 /// Runs each job in a thread of its own.
-fn work_all<T: Tag + Send, S: Setup + Send + Sync, R: Threads + Wait + Sync>(
+fn work_all<S: Setup + Send + Sync, R: Threads + Wait + Sync>(
     rt: &R,
-    server: &Server<T, HeapIndexes, S>,
+    server: &Server<TickTag, TickIndexes, S>,
     jobs: &mut [Job<S>],
 ) {
     let count = jobs.len();

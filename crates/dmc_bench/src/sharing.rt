@@ -6,12 +6,13 @@ use crate::fault::Fault;
 use crate::load::Load;
 use crate::watch::{add_since, print, start};
 use dmc_book::pass::WorkerPass;
-use dmc_heap::adaptive_index::HeapIndexes;
+use dmc_heap::tick_indexes::TickIndexes;
 use dmc_index::index::Indexes;
 use dmc_ledger::mint::{Blank, Mint};
 use dmc_ledger::setup::Setup;
 use dmc_qlock::lock::QueueLock;
 use dmc_tag::tag::Tag;
+use dmc_tick::tick::TickTag;
 use dmc_types::moment::Moment;
 use std::alloc::Global;
 use std::sync::Wait;
@@ -29,7 +30,7 @@ struct Job<S: Setup> {
 
 /// As many threads as clients share the rounds: each stamps a request of its own client, submits it, and pulls one. Returns how
 /// many requests were granted.
-pub fn serve_shared<T: Tag + Send, S: Setup + Send + Sync, R: Threads + Wait + Sync>(
+pub fn serve_shared<S: Setup + Send + Sync, R: Threads + Wait + Sync>(
     rt: &HostRuntime,
     threads: &R,
     load: Load,
@@ -38,7 +39,12 @@ pub fn serve_shared<T: Tag + Send, S: Setup + Send + Sync, R: Threads + Wait + S
     requires { blank.name ≡ S.name }
 {
     let mut mint = blank.open::<S>();
-    let (lock, mut jobs) = open_jobs::<T, HeapIndexes, S, R>(rt.alloc(), threads, &mut mint, load)?;
+    let (lock, mut jobs) = open_jobs::<TickTag, TickIndexes, S, R>(
+        rt.alloc(),
+        threads,
+        &mut mint,
+        load,
+    )?;
     let served = serve_jobs(rt, threads, &lock, jobs.as_mut_slice(), load);
     drop(lock);
     served
@@ -60,10 +66,10 @@ fn open_jobs<T: Tag, I: Indexes<T>, S: Setup, R: Wait>(
 }
 
 /// Runs all jobs.
-fn serve_jobs<T: Tag + Send, S: Setup + Send + Sync, R: Threads + Wait + Sync>(
+fn serve_jobs<S: Setup + Send + Sync, R: Threads + Wait + Sync>(
     rt: &HostRuntime,
     threads: &R,
-    lock: &QueueLock<T, HeapIndexes, S>,
+    lock: &QueueLock<TickTag, TickIndexes, S>,
     jobs: &mut [Job<S>],
     load: Load,
 ) -> Result<u64, Fault> {
@@ -112,9 +118,9 @@ fn register<T: Tag, I: Indexes<T>, S: Setup, R: Wait>(
 }
 
 /// Runs each job in a thread of its own.
-fn work_all<T: Tag + Send, S: Setup + Send + Sync, R: Threads + Wait + Sync>(
+fn work_all<S: Setup + Send + Sync, R: Threads + Wait + Sync>(
     rt: &R,
-    lock: &QueueLock<T, HeapIndexes, S>,
+    lock: &QueueLock<TickTag, TickIndexes, S>,
     jobs: &mut [Job<S>],
 ) {
     let count = jobs.len();

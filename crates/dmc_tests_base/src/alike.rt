@@ -1,5 +1,5 @@
 //! Random commands at the reference queue and at an indexed queue: each reply is the same.
-use crate::kinds::{Example, over_both, over_ratios};
+use crate::kinds::{Example, over_all, over_ratios};
 use crate::same::assert_same;
 use dmc_index::index::Indexes;
 use dmc_plain::queue::PlainQueue;
@@ -211,7 +211,7 @@ pub fn alike_over<T: Tag, I: Indexes<T>>(rt: &impl Abort, alloc: Global) -> Resu
 
 #[test]
 fn random_commands(rt: HostRuntime) -> Result<(), Fail> {
-    over_both(&rt, rt.alloc(), Example::RandomCommands)
+    over_all(&rt, rt.alloc(), Example::RandomCommands)
 }
 
 #[test]

@@ -1,7 +1,7 @@
 //! Queues, rosters and indexes that grow, with each allocation refused in turn: a call that reports an allocation failure leaves
 //! its value as it was, and works when it is made again.
 use crate::failures::Failures;
-use crate::kinds::{Example, over_both};
+use crate::kinds::{Example, over_all};
 use crate::runs::{config, drop_queue};
 use crate::same::assert_same;
 use dmc_index::index::Indexes;
@@ -148,5 +148,5 @@ pub fn grown_over<I: Indexes<TickTag>>(rt: &impl Abort, alloc: Global) -> Result
 
 #[test]
 fn grown_queues(rt: HostRuntime) -> Result<(), Fail> {
-    over_both(&rt, rt.alloc(), Example::GrownQueues)
+    over_all(&rt, rt.alloc(), Example::GrownQueues)
 }

@@ -2,7 +2,7 @@
 ghost use Rattle.std.specs.Prelude.{◌≡◌, IfOk, pos};
 ghost use Rattle.dmc_tests_base.specs.Heads as examples;
 
-use crate::kinds::{Example, over_both};
+use crate::kinds::{Example, over_all};
 use crate::same::assert_same;
 use dmc_head_index::head::Head;
 use dmc_head_index::heads::Heads;
@@ -140,10 +140,10 @@ pub fn marks_over<I: Indexes<TickTag>>(rt: &impl Abort, alloc: Global) -> Result
 
 #[test]
 fn least_share_of_heads(rt: HostRuntime) -> Result<(), Fail> {
-    over_both(&rt, rt.alloc(), Example::LeastShare)
+    over_all(&rt, rt.alloc(), Example::LeastShare)
 }
 
 #[test]
 fn ready_marks(rt: HostRuntime) -> Result<(), Fail> {
-    over_both(&rt, rt.alloc(), Example::ReadyMarks)
+    over_all(&rt, rt.alloc(), Example::ReadyMarks)
 }

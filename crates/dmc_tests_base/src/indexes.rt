@@ -8,7 +8,7 @@ ghost use Rattle.dmc_tag.specs.declared.rank.ReadyRank.{ReadyRank};
 ghost use Rattle.dmc_pull.specs.Queue.{state_of};
 ghost use Rattle.dmc_pull.specs.FirstRequests.{client_at};
 
-use crate::kinds::{Example, over_both};
+use crate::kinds::{Example, over_all};
 use crate::runs::{config, drop_queue};
 use crate::same::assert_same;
 use dmc_index::index::{Indexes, OrderIndex};
@@ -110,5 +110,5 @@ pub fn indexed_clients_over<I: Indexes<TickTag>>(
 
 #[test]
 fn indexed_clients(rt: HostRuntime) -> Result<(), Fail> {
-    over_both(&rt, rt.alloc(), Example::IndexedClients)
+    over_all(&rt, rt.alloc(), Example::IndexedClients)
 }

@@ -6,6 +6,7 @@ use crate::indexes::indexed_clients_over;
 use crate::limits::limits_over;
 use crate::runs::five_commands_over;
 use dmc_heap::adaptive_index::HeapIndexes;
+use dmc_heap::tick_indexes::TickIndexes;
 use dmc_index::index::Indexes;
 use dmc_index::list_index::ListIndexes;
 use dmc_ratio::ratio::RatioTag;
@@ -21,6 +22,8 @@ pub enum Kind {
     Lists,
     /// Heaps.
     Heaps,
+    /// Heaps that store each rank as one number.
+    Packed,
 }
 
 /// An example that is generic in the indexes.
@@ -60,13 +63,15 @@ pub fn over(rt: &impl Abort, alloc: Global, kind: Kind, example: Example) -> Res
     match kind {
         Kind::Lists => run::<ListIndexes>(rt, alloc, example),
         Kind::Heaps => run::<HeapIndexes>(rt, alloc, example),
+        Kind::Packed => run::<TickIndexes>(rt, alloc, example),
     }
 }
 
-/// Runs an example over both kinds of indexes.
-pub fn over_both(rt: &impl Abort, alloc: Global, example: Example) -> Result<(), Fail> {
+/// Runs an example over each kind of indexes.
+pub fn over_all(rt: &impl Abort, alloc: Global, example: Example) -> Result<(), Fail> {
     over(rt, alloc, Kind::Lists, example)?;
-    over(rt, alloc, Kind::Heaps, example)
+    over(rt, alloc, Kind::Heaps, example)?;
+    over(rt, alloc, Kind::Packed, example)
 }
 
 /// Random commands in ratios, over heaps.

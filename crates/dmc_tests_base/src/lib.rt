@@ -37,6 +37,8 @@ mod limits;
 #[cfg(test)]
 mod lines;
 #[cfg(test)]
+mod packed;
+#[cfg(test)]
 mod part_growths;
 #[cfg(test)]
 mod plans;

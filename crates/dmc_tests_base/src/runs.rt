@@ -1,5 +1,5 @@
-//! A run of commands, over the reference queue and the indexed queue with both kinds of indexes.
-use crate::kinds::{Example, over_both};
+//! A run of commands, over the reference queue and the indexed queue with each kind of indexes.
+use crate::kinds::{Example, over_all};
 use crate::same::assert_same;
 use dmc_index::index::Indexes;
 use dmc_plain::queue::PlainQueue;
@@ -97,7 +97,7 @@ fn granted_at_limit<S: Scheduler<TickTag>>(
     Ok(())
 }
 
-// The run over the indexed queue, proved once for both kinds of indexes.
+// The run over the indexed queue, proved once for all kinds of indexes.
 fn five_commands_of<I: Indexes<TickTag>>(
     rt: &impl Abort,
     alloc: Global,
@@ -137,5 +137,5 @@ fn five_commands_in_turn(rt: &impl Abort, alloc: Global) -> Result<(), Fail> {
 #[test]
 fn five_commands(rt: HostRuntime) -> Result<(), Fail> {
     five_commands_in_turn(&rt, rt.alloc())?;
-    over_both(&rt, rt.alloc(), Example::FiveCommands)
+    over_all(&rt, rt.alloc(), Example::FiveCommands)
 }

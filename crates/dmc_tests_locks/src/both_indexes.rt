@@ -4,7 +4,7 @@ ghost use Rattle.std.specs.Prelude.{◌≡◌};
 use crate::calls::{must_register, pull, respond, submit};
 use crate::setup::{Client, Clients, TWO, open, open_clients};
 use dmc_book::pass::WorkerPass;
-use dmc_heap::adaptive_index::HeapIndexes;
+use dmc_heap::tick_indexes::TickIndexes;
 use dmc_index::index::Indexes;
 use dmc_ledger::mint::{Blank, Mint};
 use dmc_ledger::setup::Setup;
@@ -104,7 +104,7 @@ fn over_heaps<S: Setup, R: Wait>(
         mut one,
         mut two,
     } = open_clients(alloc, mint)?;
-    let (book, mut passes) = open_book::<HeapIndexes, S>(
+    let (book, mut passes) = open_book::<TickIndexes, S>(
         alloc,
         config,
         ZERO,

@@ -8,7 +8,8 @@ pub mod shards;
 pub use dmc_check::check::{Verdict, check};
 pub use dmc_check::replayer::{ReplayFault, Replayer};
 pub use dmc_check::write::{write_events, write_segment};
-use dmc_heap::adaptive_index::HeapIndexes;
+pub use dmc_heap::adaptive_index::HeapIndexes;
+pub use dmc_heap::tick_indexes::TickIndexes;
 pub use dmc_history::{History, LimitFault, ReserveFault};
 pub use dmc_index::index::{Indexes, OrderIndex};
 pub use dmc_pull::granting::{GrantTest, PullFault};
@@ -37,7 +38,7 @@ pub use dmc_types::rates::{FINE_HZ, rate_at_least, rate_at_most};
 pub use dmc_types::refusal::{Field, QueueFault, Refusal, ValueFault};
 
 /// A queue over heaps whose tags are whole ticks: each rate has to divide the configuration's hz.
-pub type TickQueue = PullQueue<TickTag, HeapIndexes>;
+pub type TickQueue = PullQueue<TickTag, TickIndexes>;
 
 /// A queue over heaps whose tags are fractions of ticks: any rate does, and a grant costs more.
 pub type RatioQueue = PullQueue<RatioTag, HeapIndexes>;

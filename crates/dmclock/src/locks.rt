@@ -11,6 +11,7 @@ pub use dmc_book::seat::Seat;
 pub use dmc_book::settled::{Amounts, GrantsHeld, Settled};
 pub use dmc_book::status::Status;
 use dmc_heap::adaptive_index::HeapIndexes;
+use dmc_heap::tick_indexes::TickIndexes;
 pub use dmc_ledger::bundle::{PhaseTills, StampTills};
 pub use dmc_ledger::desk::{BOOKS_PER_PAIR, ClientDesk, ServerDesk, close_pair, open_pair};
 pub use dmc_ledger::full::Full;
@@ -34,13 +35,13 @@ pub use dmc_tlock::status::TrackStatus;
 pub use dmc_tracker::event::TrackerEvent;
 
 /// The book of a `TickQueue`.
-pub type TickBook<S> = QueueBook<TickTag, HeapIndexes, S>;
+pub type TickBook<S> = QueueBook<TickTag, TickIndexes, S>;
 
 /// The book of a `RatioQueue`.
 pub type RatioBook<S> = QueueBook<RatioTag, HeapIndexes, S>;
 
 /// A `TickQueue` with its book behind a lock.
-pub type TickLock<S> = QueueLock<TickTag, HeapIndexes, S>;
+pub type TickLock<S> = QueueLock<TickTag, TickIndexes, S>;
 
 /// A `RatioQueue` with its book behind a lock.
 pub type RatioLock<S> = QueueLock<RatioTag, HeapIndexes, S>;

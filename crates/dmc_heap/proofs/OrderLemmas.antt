@@ -1,18 +1,17 @@
 -- A hole that moves through a heap in order.
-use Rattle.std.proofs.Common.{◌≡◌, ◌≢◌, ℕ, ◌+◌, ◌*◌, ◌/◌, ◌<◌, ◌≤◌, List, Some, Bool, true, false, length, get_or, set, slice_get, refl, sym, ap, ◌∙◌, subst, inl, inr, arith}
+use Rattle.std.proofs.Common.{◌≡◌, ◌≢◌, ℕ, ◌+◌, ◌*◌, ◌<◌, ◌≤◌, ◌⊎◌, List, Some, Bool, true, false, length, get_or, set, slice_get, refl, sym, ap, ◌∙◌, subst, inl, inr, arith}
 use Rattle.std.specs.declared.cmp.Ordering.{Ordering}
 use Rattle.std.specs.declared.cmp.Ordering.TheVariants.{Less, Equal, Greater}
 use Rattle.std.specs.Ordering.{is_lt, is_gt, ordering_reverse}
 use Rattle.std.specs.Cmp.{IsTotalOrder}
 use Rattle.std.proofs.lemmas.Cmp.{upto, tied_itself}
-use Rattle.std.proofs.lemmas.Bool.{cases_eq}
+use Rattle.std.proofs.lemmas.Bool.{cases_eq, cases_lt}
 use Rattle.std.proofs.lemmas.List.{length-set}
-use Rattle.std.proofs.lemmas.Option.{slice_get_within, slice_get_read, get_or_from_slice_get, same_Some}
-use Rattle.std.proofs.Math.Nat.{add-zero}
-use mir.Val.{bool_byte}
+use Rattle.std.proofs.lemmas.Option.{slice_get_within, slice_get_read, slice_get-get_or, get_or_from_slice_get, same_Some}
 use Rattle.dmc_heap.specs.Heap.{parent_of, IsUpto, IsHeap, IsLinked}
-use Rattle.dmc_heap.specs.internal.Heap.{IsHole, IsMoved, IsUnderParent, IsOverChildren, IsLowerChild, IsSettled}
+use Rattle.dmc_heap.specs.internal.Heap.{IsHole, IsMoved, IsUnderParent, IsOverChildren, IsLowerOf, IsLowest, IsLowestChild, IsSettled}
 use Rattle.dmc_heap.specs.declared.indexed_heap.Entry.{Entry}
+use Rattle.dmc_heap.specs.declared.indexed_heap.TheConstants.{CHILDREN}
 use Rattle.dmc_lemmas.proofs.Lists.{slice_get-set_same, slice_get-set_other}
 use Rattle.dmc_heap.proofs.LinkLemmas.{IsLinked-move, rank_of-move}
 
@@ -92,7 +91,7 @@ module _ {R : Type 0} (compare : R → R → Ordering) (o : IsTotalOrder compare
             | inr t ↦ upto_trans x y below u (is_hole.ordered i y below pos' t (λ e. omega arith) (ap (slice_get heap) s ∙ here) (out_of_hole y below i t qb))
           ]
 
-    module _ (y : Entry R) (child : ℕ) (least : IsLowerChild compare heap hole child) (here : slice_get heap child ≡ Some y) where
+    module _ (y : Entry R) (child : ℕ) (least : IsLowestChild compare heap hole child) (here : slice_get heap child ≡ Some y) where
       below_hole : hole < child
       below_hole = omega (arith, least.positive, least.parent)
 
@@ -117,43 +116,76 @@ module _ {R : Type 0} (compare : R → R → Ordering) (o : IsTotalOrder compare
                 subst (λ a. IsUpto compare a below) (in_hole y above (ap (slice_get (set heap hole y)) (sym least.parent) ∙ qa)) (is_hole.ordered i y below pos' lower (λ e. omega arith) (ap (slice_get heap) s ∙ here) (out_of_hole y below i lower qb));
           }
 
-    pub IsOverChildren-leaf : length heap / 2 ≤ hole → IsOverChildren compare heap hole x
+    pub IsOverChildren-leaf : length heap ≤ CHILDREN * hole + 1 → IsOverChildren compare heap hole x
     IsOverChildren-leaf l i below pos' s qb = absurd (omega (arith, slice_get_within heap i below qb))
 
--- ---- the lower child
+-- ---- the lowest child
 
-module _ {R : Type 0} (compare : R → R → Ordering) (o : IsTotalOrder compare) (heap : List (Entry R)) (at : ℕ) where
-  -- an entry that is not above those of the two children
-  lower_by : (child : ℕ) (entry : Entry R) → slice_get heap child ≡ Some entry → 0 < child → parent_of child ≡ at → ((e : Entry R) → slice_get heap (2 * at + 1) ≡ Some e → IsUpto compare entry e) → ((e : Entry R) → slice_get heap (2 * at + 1 + 1) ≡ Some e → IsUpto compare entry e) → IsLowerChild compare heap at child
-  lower_by child entry here pos parent left right = record {
-    within = slice_get_within heap child entry here;
-    positive = pos;
-    parent = parent;
-    lower = λ other e e' pos' s h q. subst (λ x. IsUpto compare x e') (same_Some entry e (sym here ∙ h)) (elim (cases_eq other (2 * at + 1)) [
-      | inl t ↦ left e' (ap (slice_get heap) (sym t) ∙ q)
-      | inr t ↦ let second : other ≡ 2 * at + 1 + 1 = omega arith in right e' (ap (slice_get heap) (sym second) ∙ q)
-    ]);
+module _ {R : Type 0} (compare : R → R → Ordering) (o : IsTotalOrder compare) (heap : List (Entry R)) where
+  -- two entries as the code reads them
+  pub second_is_lower : (a b : ℕ) (x y : Entry R) (below : Bool) → a < length heap → b < length heap → x ≡ get_or heap a x → y ≡ get_or heap b y → below ≡ is_lt (compare (get_or heap b y).rank (get_or heap a x).rank) → below ≡ true → IsLowerOf compare heap a b b
+  second_is_lower a b x y below in_a in_b p q e t =
+      let here = slice_get_read heap (length heap) a x refl in_a p in
+      let there = slice_get_read heap (length heap) b y refl in_b q in
+      let same = ap (λ (z : Entry R). is_lt (compare y.rank z.rank)) p ∙ ap (λ (z : Entry R). is_lt (compare z.rank (get_or heap a x).rank)) q in
+      record {
+        one = inr refl;
+        upto_a = λ u v h k. subst (λ z. IsUpto compare z v) (same_Some y u (sym there ∙ h)) (subst (IsUpto compare y) (same_Some x v (sym here ∙ k)) (upto_if_lt (compare y.rank x.rank) (same ∙ sym e ∙ t)));
+        upto_b = λ u v h k. upto_itself compare o u v (same_Some u v (sym h ∙ k));
+      }
+
+  pub first_is_lower : (a b : ℕ) (x y : Entry R) (below : Bool) → a < length heap → b < length heap → x ≡ get_or heap a x → y ≡ get_or heap b y → below ≡ is_lt (compare (get_or heap b y).rank (get_or heap a x).rank) → below ≡ false → IsLowerOf compare heap a b a
+  first_is_lower a b x y below in_a in_b p q e t =
+      let here = slice_get_read heap (length heap) a x refl in_a p in
+      let there = slice_get_read heap (length heap) b y refl in_b q in
+      let same = ap (λ (z : Entry R). is_lt (compare y.rank z.rank)) p ∙ ap (λ (z : Entry R). is_lt (compare z.rank (get_or heap a x).rank)) q in
+      record {
+        one = inl refl;
+        upto_a = λ u v h k. upto_itself compare o u v (same_Some u v (sym h ∙ k));
+        upto_b = λ u v h k. subst (λ z. IsUpto compare z v) (same_Some x u (sym here ∙ h)) (subst (IsUpto compare x) (same_Some y v (sym there ∙ k)) (upto_if_not_lt compare o y x (same ∙ sym e ∙ t)));
+      }
+
+  pub lowest_one : (i to : ℕ) → to ≡ i + 1 → i < length heap → IsLowest compare heap i to i
+  lowest_one i to end within = record {
+    within = within;
+    after = omega arith;
+    before = omega (arith, end);
+    upto_others = λ other e e' from before h k. let same : other ≡ i = omega (arith, end) in upto_itself compare o e e' (same_Some e e' (sym h ∙ ap (slice_get heap) (sym same) ∙ k));
   }
 
-  pub only_child : at < length heap / 2 → length heap ≤ 2 * at + 1 + 1 → IsLowerChild compare heap at (2 * at + 1)
-  only_child inner end = record {
-    within = omega arith;
-    positive = omega arith;
-    parent = omega arith;
-    lower = λ other e e' pos s h q. let same : other ≡ 2 * at + 1 = omega (arith, slice_get_within heap other e' q) in upto_itself compare o e e' (same_Some e e' (sym h ∙ ap (slice_get heap) (sym same) ∙ q));
+  module _ (from mid to x y lower : ℕ) (left : IsLowest compare heap from mid x) (right : IsLowest compare heap mid to y) (is : IsLowerOf compare heap x y lower) where
+    lower_fits : (lower < length heap) × (from ≤ lower) × (lower < to)
+    lower_fits = elim is.one [
+      | inl s ↦ omega (arith, s, left.within, left.after, left.before, right.after, right.before)
+      | inr s ↦ omega (arith, s, right.within, left.after, left.before, right.after, right.before)
+    ]
+
+    upto_all : (other : ℕ) (e e' : Entry R) → from ≤ other → other < to → slice_get heap lower ≡ Some e → slice_get heap other ≡ Some e' → IsUpto compare e e'
+    upto_all other e e' p q h k =
+        let at_x = slice_get-get_or heap x e left.within in
+        let at_y = slice_get-get_or heap y e right.within in
+        elim (cases_lt other mid) [
+          | inl before ↦ upto_trans compare o e (get_or heap x e) e' (is.upto_a e (get_or heap x e) h at_x) (left.upto_others other (get_or heap x e) e' p before at_x k)
+          | inr after ↦ upto_trans compare o e (get_or heap y e) e' (is.upto_b e (get_or heap y e) h at_y) (right.upto_others other (get_or heap y e) e' after q at_y k)
+        ]
+
+    pub lowest_join : IsLowest compare heap from to lower
+    lowest_join = record { within = lower_fits.0; after = lower_fits.1; before = lower_fits.2; upto_others = upto_all }
+
+  -- the children are those of a range, as far as there are any
+  pub IsLowestChild-range : (at to child : ℕ) → (to ≡ CHILDREN * at + 1 + CHILDREN) ⊎ ((length heap ≤ to) × (to ≤ CHILDREN * at + 1 + CHILDREN)) → IsLowest compare heap (CHILDREN * at + 1) to child → IsLowestChild compare heap at child
+  IsLowestChild-range at to child ends lowest = record {
+    within = lowest.within;
+    positive = omega (arith, lowest.after);
+    parent = elim ends [
+      | inl s ↦ omega (arith, s, lowest.after, lowest.before)
+      | inr s ↦ omega (arith, s.1, lowest.after, lowest.before)
+    ];
+    lower = λ other e e' pos s h k. lowest.upto_others other e e' (omega (arith, s)) (elim ends [
+      | inl t ↦ omega (arith, s, t)
+      | inr t ↦ omega (arith, t.0, slice_get_within heap other e' k)
+    ]) h k;
   }
-
-  lower_of_two : (left right : Entry R) (below : Bool) → slice_get heap (2 * at + 1) ≡ Some left → slice_get heap (2 * at + 1 + 1) ≡ Some right → is_lt (compare right.rank left.rank) ≡ below → IsLowerChild compare heap at (2 * at + 1 + bool_byte below)
-  lower_of_two left right true p q e =
-      lower_by (2 * at + 1 + 1) right q (omega arith) (omega arith) (λ x h. subst (IsUpto compare right) (same_Some left x (sym p ∙ h)) (upto_if_lt (compare right.rank left.rank) e)) (λ x h. upto_itself compare o right x (same_Some right x (sym q ∙ h)))
-  lower_of_two left right false p q e =
-      rw add-zero (lower_by (2 * at + 1) left p (omega arith) (omega arith) (λ x h. upto_itself compare o left x (same_Some left x (sym p ∙ h))) (λ x h. subst (IsUpto compare left) (same_Some right x (sym q ∙ h)) (upto_if_not_lt compare o right left e)))
-
-  -- the two children as the code reads them
-  pub lower_read : (left right : Entry R) (below : Bool) (step : ℕ) → 2 * at + 1 + 1 < length heap → left ≡ get_or heap (2 * at + 1) left → right ≡ get_or heap (2 * at + 1 + 1) right → below ≡ is_lt (compare (get_or heap (2 * at + 1 + 1) right).rank (get_or heap (2 * at + 1) left).rank) → step ≡ bool_byte below → IsLowerChild compare heap at (2 * at + 1 + step)
-  lower_read left right below step within p q e f =
-      let same = ap (λ (x : Entry R). is_lt (compare right.rank x.rank)) p ∙ ap (λ (x : Entry R). is_lt (compare x.rank (get_or heap (2 * at + 1) left).rank)) q in
-      rw f (lower_of_two left right below (slice_get_read heap (length heap) (2 * at + 1) left refl (omega arith) p) (slice_get_read heap (length heap) (2 * at + 1 + 1) right refl within q) (same ∙ sym e))
 
 -- ---- one more move
 

@@ -5,7 +5,7 @@ use Rattle.std.specs.Ordering.{is_gt}
 use Rattle.std.specs.declared.cmp.Ordering.{Ordering}
 use Rattle.dmc_index.specs.Index.{AreApart}
 use Rattle.dmc_heap.specs.declared.indexed_heap.Entry.{Entry}
-use Rattle.dmc_heap.specs.declared.indexed_heap.TheConstants.{VACANT}
+use Rattle.dmc_heap.specs.declared.indexed_heap.TheConstants.{VACANT, CHILDREN}
 
 -- the rank of the entry at an index, if there is one
 abbrev pub rank_at : {R : Type 0} → List (Entry R) → ℕ → Option R
@@ -24,7 +24,7 @@ pub record IsLinked {R : Type 0} (heap : List (Entry R)) (places : List ℕ) : T
 -- ---- the order
 
 abbrev pub parent_of : ℕ → ℕ
-parent_of place = (place - 1) / 2
+parent_of place = (place - 1) / CHILDREN
 
 -- the rank of a is not above that of b
 abbrev pub IsUpto : {R : Type 0} → (R → R → Ordering) → Entry R → Entry R → Type 0

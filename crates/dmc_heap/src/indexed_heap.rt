@@ -1,8 +1,8 @@
-//! An index as a binary heap that also stores the heap index of each key.
-ghost use Rattle.std.specs.Prelude.{◌≡◌, ◌≢◌, ◌<◌, ◌≤◌, ◌/◌, length, slice_set, ⊤};
+//! An index as a heap that also stores the heap index of each key.
+ghost use Rattle.std.specs.Prelude.{◌≡◌, ◌≢◌, ◌<◌, ◌≤◌, ◌+◌, ◌*◌, length, slice_set, ⊤};
 ghost use Rattle.std.specs.List.{All};
 ghost use Rattle.dmc_heap.specs.declared.indexed_heap.Entry.{Entry};
-ghost use Rattle.dmc_heap.specs.internal.Heap.{IsHole, IsMoved, IsUnderParent, IsOverChildren, IsLowerChild, IsSettled, MapsEntries};
+ghost use Rattle.dmc_heap.specs.internal.Heap.{IsHole, IsMoved, IsUnderParent, IsOverChildren, IsLowerOf, IsLowest, IsLowestChild, IsSettled, MapsEntries};
 
 use dmc_index::index::OrderIndex;
 use dmc_tag::rank::Rank;
@@ -26,14 +26,17 @@ impl<R: Copy> Clone for Entry<R> {
     }
 }
 
+// How many children an entry has at most.
+const CHILDREN: usize = 4;
+
 // The heap index of a key that is not in the heap. No heap is so large.
 const VACANT: usize = usize::MAX;
 
-/// An index as a binary heap. The least rank takes O(1); the other changes take a number of steps that is logarithmic in the
-/// number of keys.
+/// An index as a heap in which each entry has up to four children. The least rank takes O(1); the other changes take a number of
+/// steps that is logarithmic in the number of keys.
 #[derive(Drop)]
 pub struct IndexedHeap<R: Rank> {
-    // No rank is above those of the two children, which for index i are at 2i + 1 and 2i + 2.
+    // No rank is above those of the children, which for index i are at 4i + 1 to 4i + 4.
     heap: Vec<Entry<R>>,
     // Each key's index in the heap.
     places: Vec<usize>,
@@ -75,7 +78,7 @@ fn rise<R: Rank>(
     ensures over_children { result ≢ at → IsOverChildren R.cmp heap.new result entry }
 {
     while at > 0 {
-        let parent = (at - 1) / 2;
+        let parent = (at - 1) / CHILDREN;
         if !entry.rank.is_below(&heap[parent].rank) {
             return at;
         }
@@ -86,30 +89,62 @@ fn rise<R: Rank>(
     at
 }
 
-// The child with the lower rank.
-fn lower_child<R: Rank>(heap: &[Entry<R>], at: usize) -> usize
-    requires { at < length heap.now / 2 }
-    ensures { IsLowerChild R.cmp heap.now at result }
+// Of two indexes the one with the lower rank.
+fn lower_of<R: Rank>(heap: &[Entry<R>], a: usize, b: usize) -> usize
+    requires a { a < length heap.now }
+    requires b { b < length heap.now }
+    ensures { IsLowerOf R.cmp heap.now a b result }
 {
-    let left = 2 * at + 1;
-    let right = left + 1;
-    if right < heap.len() {
-        return left + usize::from(heap[right].rank.is_below(&heap[left].rank));
+    if heap[b].rank.is_below(&heap[a].rank) {
+        return b;
     }
-    left
+    a
 }
 
-// Moves a hole down to a leaf, past the child with the lower rank each time. Whichever entry the hole is for, it is for that one
+// The index with the lowest rank of the last ones, of which there are at most three.
+fn lowest_of_few<R: Rank>(heap: &[Entry<R>], first: usize) -> usize
+    requires some { first < length heap.now }
+    requires few { length heap.now ≤ first + 3 }
+    ensures { IsLowest R.cmp heap.now first (length heap.now) result }
+{
+    let second = first + 1;
+    let third = first + 2;
+    if third < heap.len() {
+        let left = lower_of(heap, first, second);
+        return lower_of(heap, left, third);
+    }
+    if second < heap.len() {
+        return lower_of(heap, first, second);
+    }
+    first
+}
+
+// The child with the lowest rank. Two pairs of four are compared first, so that no comparison waits for the one before.
+fn lowest_child<R: Rank>(heap: &[Entry<R>], at: usize) -> usize
+    requires { CHILDREN * at + 1 < length heap.now }
+    ensures { IsLowestChild R.cmp heap.now at result }
+{
+    let first = CHILDREN * at + 1;
+    let last = first + 3;
+    if last < heap.len() {
+        let left = lower_of(heap, first, first + 1);
+        let right = lower_of(heap, first + 2, last);
+        return lower_of(heap, left, right);
+    }
+    lowest_of_few(heap, first)
+}
+
+// Moves a hole down to a leaf, past the child with the lowest rank each time. Whichever entry the hole is for, it is for that one
 // still.
 fn descend<R: Rank>(heap: &mut [Entry<R>], places: &mut [usize], mut at: usize) -> usize
     requires { (entry : Entry R) × IsHole R.cmp heap.old places.old at entry }
     ensures hole { (entry : Entry R) → IsHole R.cmp heap.old places.old at entry → IsHole R.cmp heap.new places.new result entry }
     ensures moved { (entry : Entry R) → IsHole R.cmp heap.old places.old at entry → IsMoved heap.old places.old at entry heap.new places.new result }
-    ensures leaf { length heap.new / 2 ≤ result }
+    ensures leaf { length heap.new ≤ CHILDREN * result + 1 }
 {
-    let leaves = heap.len() / 2;
+    let leaves = (heap.len() + CHILDREN - 2) / CHILDREN;
     while at < leaves {
-        let child = lower_child(heap, at);
+        let child = lowest_child(heap, at);
         let lower = heap[child];
         put(heap, places, at, lower);
         at = child;
@@ -131,7 +166,7 @@ fn settle<R: Rank>(heap: &mut [Entry<R>], places: &mut [usize], at: usize, entry
 // Fills the hole at a leaf with the entry, once it was moved up as far as the entry belongs.
 fn settle_leaf<R: Rank>(heap: &mut [Entry<R>], places: &mut [usize], at: usize, entry: Entry<R>)
     requires hole { IsHole R.cmp heap.old places.old at entry }
-    requires leaf { length heap.old / 2 ≤ at }
+    requires leaf { length heap.old ≤ CHILDREN * at + 1 }
     ensures { IsSettled R.cmp heap.old places.old at entry heap.new places.new }
 {
     let place = rise(heap, places, at, entry);

@@ -1,5 +1,5 @@
 -- A hole in the heap that is moved and filled, and entries whose ranks are mapped.
-use Rattle.std.specs.Prelude.{◌≡◌, ◌≢◌, ℕ, ◌<◌, List, Option, Some, length, slice_get, slice_set, slice_index_or, option_and_then}
+use Rattle.std.specs.Prelude.{◌≡◌, ◌≢◌, ℕ, ◌<◌, ◌≤◌, ◌⊎◌, List, Option, Some, length, slice_get, slice_set, slice_index_or, option_and_then}
 use Rattle.std.specs.declared.cmp.Ordering.{Ordering}
 use Rattle.dmc_heap.specs.declared.indexed_heap.Entry.{Entry}
 use Rattle.dmc_heap.specs.Heap.{rank_at, IsLinked, parent_of, IsUpto, IsHeap}
@@ -32,8 +32,21 @@ pub record IsMoved {R : Type 0} (heap : List (Entry R)) (places : List ℕ) (hol
   pub room : length new_places ≡ length places
   pub ranks : (key : ℕ) → rank_of (slice_set new_heap new_hole entry) (slice_set new_places entry.key new_hole) key ≡ rank_of (slice_set heap hole entry) (slice_set places entry.key hole) key
 
+-- one of two indexes, and the rank there is not above that at the other
+pub record IsLowerOf {R : Type 0} (compare : R → R → Ordering) (heap : List (Entry R)) (a b lower : ℕ) : Type 0 where
+  pub one : (lower ≡ a) ⊎ (lower ≡ b)
+  pub upto_a : (entry entry' : Entry R) → slice_get heap lower ≡ Some entry → slice_get heap a ≡ Some entry' → IsUpto compare entry entry'
+  pub upto_b : (entry entry' : Entry R) → slice_get heap lower ≡ Some entry → slice_get heap b ≡ Some entry' → IsUpto compare entry entry'
+
+-- no index of a range has a rank below that of this one
+pub record IsLowest {R : Type 0} (compare : R → R → Ordering) (heap : List (Entry R)) (from to lowest : ℕ) : Type 0 where
+  pub within : lowest < length heap
+  pub after : from ≤ lowest
+  pub before : lowest < to
+  pub upto_others : (other : ℕ) (entry entry' : Entry R) → from ≤ other → other < to → slice_get heap lowest ≡ Some entry → slice_get heap other ≡ Some entry' → IsUpto compare entry entry'
+
 -- no child of the index has a rank below that of this child
-pub record IsLowerChild {R : Type 0} (compare : R → R → Ordering) (heap : List (Entry R)) (place child : ℕ) : Type 0 where
+pub record IsLowestChild {R : Type 0} (compare : R → R → Ordering) (heap : List (Entry R)) (place child : ℕ) : Type 0 where
   pub within : child < length heap
   pub positive : 0 < child
   pub parent : parent_of child ≡ place

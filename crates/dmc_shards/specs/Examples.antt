@@ -1,5 +1,6 @@
--- Small lists of calls on which the bounds are computed, with a history of dmc_history_laws as that of shard 0's queue: there a_1 came
--- with delta 0, a_2 and a_3 with delta 1, and limit 20 grants a_2 at 50.
+-- Small lists of calls on which the bounds are computed, with a history of dmc_history_laws as that of shard 0's queue. In those of the
+-- limit a_1 came with delta 0, a_2 and a_3 with delta 1, and limit 20 grants a_2 at 50. In that of the reservation the rhos are the
+-- deltas, a_2 is granted by weight at 0, and reservation 10 grants a_3 at 100.
 use Rattle.std.specs.Prelude.{ℕ, List, [], ◌∷◌}
 use Rattle.dmc_types.specs.Values.{Params}
 use Rattle.dmc_types.specs.declared.ids.ServerId.{ServerId}
@@ -16,6 +17,14 @@ counting delta = record { delta = delta; rho = 0; cost = 1 }
 -- a request to a shard, which came with this delta
 abbrev pub to_shard : ℕ → ℕ → ShardCall
 to_shard n delta = Arrive (shard n) (counting delta)
+
+-- a request to a shard, whose stamp has this delta and this rho
+abbrev pub reserved_to : ℕ → ℕ → ShardCall
+reserved_to n count = Arrive (shard n) (record { delta = count; rho = count; cost = 1 })
+
+-- delta 1 and rho 1 come with a request to shard 1, and with a_3 to shard 0
+abbrev pub other_reserved : List ShardCall
+other_reserved = reserved_to 0 0 ∷ reserved_to 1 1 ∷ reserved_to 0 0 ∷ reserved_to 0 1 ∷ []
 
 -- delta 1 comes with a request to shard 1; a_2 and a_3 go to shard 0
 abbrev pub other_shard : List ShardCall

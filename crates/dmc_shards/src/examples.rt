@@ -3,10 +3,10 @@ ghost use Rattle.std.specs.Prelude.{◌≡◌, ◌*◌, ◌-◌, ◌∷◌, [], 
 ghost use Rattle.dmc_tag.specs.Replay.{replays};
 ghost use Rattle.dmc_tag.specs.Examples.{waiting};
 ghost use Rattle.dmc_tick.specs.Tick.{tick_ops};
-ghost use Rattle.dmc_history_laws.specs.Bounds.{arrivals, given_back, ticks};
-ghost use Rattle.dmc_history_laws.specs.Examples.{first_client, limit_history, limit_span, taken_back_history, taken_back_span};
+ghost use Rattle.dmc_history_laws.specs.Bounds.{arrivals, between, given_back, priorities, ticks};
+ghost use Rattle.dmc_history_laws.specs.Examples.{first_client, limit_history, limit_span, priority_history, priority_span, taken_back_history, taken_back_span};
 ghost use Rattle.dmc_shards.specs.ShardBounds.{stamp_at, came_to, others_between, skipped_between, back_between, AreStamped};
-ghost use Rattle.dmc_shards.specs.Examples.{shard, counting, other_shard, with_other, refused_one, with_refused, kept_one, with_kept, skipped_one, with_skipped, out_of_order, later_first};
+ghost use Rattle.dmc_shards.specs.Examples.{shard, counting, other_shard, other_reserved, with_other, refused_one, with_refused, kept_one, with_kept, skipped_one, with_skipped, out_of_order, later_first};
 
 /// Limit 20: a_2 is granted at 50, and both sides are 1,000, since what came in with a request to shard 1 counts at shard 0.
 pub fn other_shards_count()
@@ -16,6 +16,17 @@ pub fn other_shards_count()
     ensures came { 1000 * ((came_to other_shard with_other limit_span.k).delta - (came_to other_shard with_other limit_span.i).delta) ≡ 1000 }
     ensures ticks { 20 * ticks tick_ops waiting limit_history limit_span.arrived limit_span.granted limit_span.moment ≡ 1000 }
     ensures others { (others_between (shard 0) other_shard with_other limit_span.i limit_span.k).delta ≡ 0 }
+{}
+
+/// Reservation 10: a_2 is granted by weight, and a_3 in the constraint phase at 100. The rhos that came in, also with a request to
+/// shard 1, are 2,000; the ticks are 1,000, and what a_2 was granted by weight is 1,000.
+pub fn other_shards_count_by_reservation()
+    ensures replayed { replays tick_ops waiting priority_history }
+    ensures stamped { AreStamped priority_span.k (arrivals first_client priority_history) (shard 0) other_reserved with_other }
+    ensures came { 1000 * ((came_to other_reserved with_other priority_span.k).rho - (came_to other_reserved with_other priority_span.i).rho) ≡ 2000 }
+    ensures ticks { 10 * ticks tick_ops waiting priority_history priority_span.arrived priority_span.granted priority_span.moment ≡ 1000 }
+    ensures by_weight { 1000 * priorities first_client (between priority_span.arrived priority_span.granted priority_history) ≡ 1000 }
+    ensures others { (others_between (shard 0) other_reserved with_other priority_span.i priority_span.k).rho ≡ 0 }
 {}
 
 /// Limit 20: a_2 is taken back, and a_3 is granted at 50. What came in, also with a request to shard 1, is 2,000; the ticks are 1,000,

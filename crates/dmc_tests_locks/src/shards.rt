@@ -37,15 +37,19 @@ const SECOND: ServerId = ServerId(1);
 
 const NO_SHARD: ServerId = ServerId(2);
 
-/// The lock of a shard without clients, and the pass of its worker.
+/// More events than a test has.
+const MANY: u32 = 99;
+
+/// The lock of a shard without clients, which keeps at most so many events, and the pass of its worker.
 fn open_shard<S: Setup>(
     alloc: Global,
     mint: &mut Mint<S>,
     shard: ServerId,
+    most: u32,
 ) -> Result<(Lock<S>, WorkerPass<S>), Fail> {
     let config = wait_config(LONG)?;
     let desks = Vec::new(alloc);
-    let (book, mut passes) = open_book(alloc, config, shard, mint, desks, &[SEVEN], 99)?;
+    let (book, mut passes) = open_book(alloc, config, shard, mint, desks, &[SEVEN], most)?;
     let lock = QueueLock::new(book);
     match passes.pop() {
         Some(pass) => Ok((lock, pass)),
@@ -109,9 +113,14 @@ fn come<S: Setup, R: Wait>(
     Ok(ArrivalLock::new(book))
 }
 
-fn open<S: Setup, R: Wait>(rt: &R, alloc: Global, mint: &mut Mint<S>) -> Result<Opened<S>, Fail> {
-    let (first, one) = open_shard(alloc, mint, FIRST)?;
-    let (second, two) = open_shard(alloc, mint, SECOND)?;
+fn open<S: Setup, R: Wait>(
+    rt: &R,
+    alloc: Global,
+    mint: &mut Mint<S>,
+    most: u32,
+) -> Result<Opened<S>, Fail> {
+    let (first, one) = open_shard(alloc, mint, FIRST, most)?;
+    let (second, two) = open_shard(alloc, mint, SECOND, most)?;
     let mut passes = both(alloc, one, two)?;
     let server = server_of(both(alloc, first, second)?)?;
     let client = come(rt, alloc, mint, &server, passes.as_mut_slice())?;
@@ -205,7 +214,7 @@ fn run_shards<S: Setup, R: Wait>(
     requires { blank.name ≡ S.name }
 {
     let mut mint = blank.open::<S>();
-    let mut opened = open(rt, alloc, &mut mint)?;
+    let mut opened = open(rt, alloc, &mut mint, MANY)?;
     let steps = run_steps(rt, &mut opened);
     let skipped = opened.client.skip(rt, FIRST);
     let after = shown(rt, &opened);
@@ -226,6 +235,49 @@ fn shards_of_a_server(rt: HostRuntime) -> Result<(), Fail> {
     ];
     let after = [Some((3, 2, 1, 0)), Some((3, 3, 0, 0))];
     assert_same(&rt, &answer, &(steps, Ok(()), after));
+    Ok(())
+}
+
+/// A shard's queue releases its events.
+fn rotate<S: Setup, R: Wait>(rt: &R, server: &Server<S>, shard: ServerId) -> Result<(), Fail> {
+    let Some(queue) = server.shard(shard) else {
+        return Err(Fail::new("a shard"));
+    };
+    match queue.rotate(rt) {
+        Some(_) => Ok(()),
+        None => Err(Fail::new("a segment")),
+    }
+}
+
+/// A request that the queue of its shard refuses, since its history is full, between two that come in.
+fn refuse_between<S: Setup, R: Wait>(rt: &R, opened: &mut Opened<S>) -> Result<[Step; 3], Fail> {
+    let before = (submit(rt, opened, FIRST, 2)?, shown(rt, opened));
+    let refused = (submit(rt, opened, FIRST, 1)?, shown(rt, opened));
+    rotate(rt, &opened.server, FIRST)?;
+    let after = (submit(rt, opened, FIRST, 3)?, shown(rt, opened));
+    Ok([before, refused, after])
+}
+
+fn run_refusal<S: Setup, R: Wait>(rt: &R, alloc: Global, blank: Blank) -> Result<[Step; 3], Fail>
+    requires { blank.name ≡ S.name }
+{
+    let mut mint = blank.open::<S>();
+    let mut opened = open(rt, alloc, &mut mint, 2)?;
+    let steps = refuse_between(rt, &mut opened);
+    drop(opened);
+    steps
+}
+
+#[test]
+fn refused_between(rt: HostRuntime) -> Result<(), Fail> {
+    let answer = run_refusal::<Brand, HostRuntime>(&rt, rt.alloc(), Blank::new(64))?;
+    let first = [Some((2, 2, 0, 0)), Some((2, 0, 0, 2))];
+    let steps = [
+        (None, first),
+        (Some(ArriveFault::Queue(SubmitCause::HistoryFull)), first),
+        (None, [Some((5, 5, 0, 0)), Some((5, 0, 0, 5))]),
+    ];
+    assert_same(&rt, &answer, &steps);
     Ok(())
 }
 
@@ -311,7 +363,7 @@ fn run_leaving<S: Setup, R: Wait>(
     let mut mint = blank.open::<S>();
     let (book, _) = ArrivalBook::open(alloc, &mut mint, ClientId(3), 2, 9)?;
     let other = ArrivalLock::new(book);
-    let mut opened = open(rt, alloc, &mut mint)?;
+    let mut opened = open(rt, alloc, &mut mint, MANY)?;
     let left = leave_second(rt, alloc, &mut opened, &other);
     drop(opened);
     left
@@ -331,7 +383,7 @@ fn are_shards<S: Setup>(alloc: Global, blank: Blank, servers: &[ServerId]) -> Re
     let mut mint = blank.open::<S>();
     let mut locks = Vec::new(alloc);
     for server in servers {
-        let (lock, _) = open_shard(alloc, &mut mint, *server)?;
+        let (lock, _) = open_shard(alloc, &mut mint, *server, MANY)?;
         push(&mut locks, lock)?;
     }
     match ShardedServer::new(locks) {

@@ -3,6 +3,7 @@ ghost use Rattle.std.specs.Prelude.{OnOk};
 ghost use Rattle.dmclock.specs.Replay.{replays};
 
 use crate::shared::{FIRST, Shared, config};
+use crate::sums::Sums;
 use anyhow::{Error, Result, bail};
 use dmclock::locks::{Segment, Setup, TickLock};
 use dmclock::{Replayer, ServerId, Tag, TickTag, Verdict};
@@ -17,6 +18,8 @@ pub struct Auditor {
     pub shard: ServerId,
     /// How many events were replayed.
     pub events: u64,
+    /// What they say came in.
+    pub sums: Sums,
     pub fault: Option<Error>,
 }
 
@@ -31,16 +34,18 @@ fn replay<T: Tag, S: Setup>(replayer: &mut Replayer<T>, segment: &Segment<T, S>)
     }
 }
 
-/// Replays what was recorded since the last time.
+/// Replays what was recorded since the last time, and sums up what came in.
 fn audit<S: Setup, R: Wait>(
     rt: &R,
     queue: &TickLock<S>,
     replayer: &mut Replayer<TickTag>,
+    sums: &mut Sums,
 ) -> Result<()> {
     let Some(segment) = queue.rotate(rt) else {
         bail!("a shard released nothing");
     };
-    replay(replayer, &segment)
+    replay(replayer, &segment)?;
+    sums.add_segment(&segment)
 }
 
 impl Auditor {
@@ -82,7 +87,7 @@ impl Auditor {
         let mut reported = shared.start;
         for _ in rt.forever() {
             let goes_on = backlog.wait_for_enough(rt);
-            audit(rt, queue, replayer)?;
+            audit(rt, queue, replayer, &mut self.sums)?;
             backlog.note_released(rt, replayer.event_count());
             let total = self.count(rt, shared, replayer.event_count());
             reported = self.report(rt, reported, report, total)?;

@@ -12,6 +12,7 @@ mod requesting;
 mod serving;
 mod settling;
 mod shared;
+mod sums;
 
 ghost use Rattle.std.specs.Prelude.{◌≡◌};
 
@@ -107,8 +108,13 @@ fn audit_all<S: Setup + Send + Sync, R: Threads + Wait + Clock + Eprint + Sync>(
     }
 }
 
-/// The first fault of a thread.
+/// The first fault of a thread. A client's is last, since the server is closed once another thread fails.
 fn first_fault<S: Setup>(opened: &mut Opened<S>) -> Result<()> {
+    for auditor in opened.auditors.iter_mut() {
+        if let Some(fault) = auditor.fault.take() {
+            return Err(fault);
+        }
+    }
     for worker in opened.workers.iter_mut() {
         if let Some(fault) = worker.fault.take() {
             return Err(fault);
@@ -116,11 +122,6 @@ fn first_fault<S: Setup>(opened: &mut Opened<S>) -> Result<()> {
     }
     for requester in opened.requesters.iter_mut() {
         if let Some(fault) = requester.fault.take() {
-            return Err(fault);
-        }
-    }
-    for auditor in opened.auditors.iter_mut() {
-        if let Some(fault) = auditor.fault.take() {
             return Err(fault);
         }
     }
@@ -172,5 +173,6 @@ fn main(rt: HostRuntime) -> Result<()> {
     )?;
     println!(&rt; "{events} events replay")?;
     println!(&rt; "{grants} grants are settled")?;
+    println!(&rt; "the counts of each client agree at its trackers and at {SHARDS} shards")?;
     Ok(())
 }

@@ -3,13 +3,14 @@ use crate::auditing::Auditor;
 use crate::requesting::Requester;
 use crate::serving::Worker;
 use crate::shared::{Client, SHARDS, Shared, config};
+use crate::sums::Sums;
 use anyhow::{Result, bail};
 use dmclock::locks::{
     BOOKS_PER_PAIR, BOOKS_PER_WORKER, ClientDesk, Mint, Setup, TickBook, TickLock, WorkerPass,
 };
 use dmclock::shards::{ArrivalBook, ArrivalLock, ShardedServer};
 use dmclock::{
-    ClientId, ClientInfo, Command, Counting, Moment, ServerId, ServiceTracker, WorkerId,
+    ClientId, ClientInfo, Command, Counting, Moment, Reply, ServerId, ServiceTracker, WorkerId,
 };
 use example_threads::flow::{Backlog, Served};
 use std::alloc::Global;
@@ -33,6 +34,9 @@ pub const BOOKS: u64 = SHARDS as u64 * BOOKS_PER_SHARD;
 
 /// How many events a shard's queue keeps at most, until they are released.
 const MAX_KEPT: u32 = 1 << 20;
+
+/// A reservation, in requests a second. It divides `FINE_HZ`.
+const RESERVATION: u32 = 1008;
 
 /// The most that a client's trackers count.
 const MAX_COMPLETIONS: u64 = 1 << 62;
@@ -121,6 +125,12 @@ fn admit<S: Setup, R: Wait>(
     Ok(())
 }
 
+/// The rates of a client: the first two have reservations, so that requests are granted in both phases.
+fn info_of(id: ClientId) -> Result<ClientInfo> {
+    let reservation = if id.0 < 2 { Some(RESERVATION) } else { None };
+    Ok(ClientInfo::new(reservation, id.0.saturating_add(1), None)?)
+}
+
 fn admit_at<S: Setup, R: Wait>(
     rt: &R,
     queue: &TickLock<S>,
@@ -133,11 +143,13 @@ fn admit_at<S: Setup, R: Wait>(
     }
     let command = Command::Register {
         client: id,
-        info: ClientInfo::new(None, id.0.saturating_add(1), None)?,
+        info: info_of(id)?,
         at: Moment::zero(),
     };
-    queue.run(rt, pass, command)?;
-    Ok(())
+    match queue.run(rt, pass, command)? {
+        Reply::Registered => Ok(()),
+        _ => bail!("a client is not registered"),
+    }
 }
 
 /// The server with its clients and workers.
@@ -212,6 +224,7 @@ impl<S: Setup> Opened<S> {
             self.auditors.push(Auditor {
                 shard: ServerId(number),
                 events: 0,
+                sums: Sums::none(),
                 fault: None,
             })?;
         }

@@ -1,11 +1,13 @@
 //! What is left once all threads have ended, settled.
+use crate::auditing::Auditor;
 use crate::opening::Opened;
 use crate::requesting::Requester;
 use crate::serving::Worker;
-use crate::shared::{SHARDS, Shared};
+use crate::shared::{Client, SERVER, SHARDS, Shared};
 use anyhow::{Result, bail};
-use dmclock::TickTag;
 use dmclock::locks::{Settled, Setup, TickLock, WorkerPass};
+use dmclock::shards::{ArrivalBook, Counts};
+use dmclock::{ServiceTracker, TickTag};
 use std::alloc::Global;
 
 /// The passes of each shard.
@@ -76,18 +78,62 @@ fn settle_queue<S: Setup>(
     }
 }
 
-/// Settles the book of each shard's queue. Returns how many requests were granted.
+/// What a client's book sent to a shard is what the shard's queue recorded of the client.
+fn judge_shard<S: Setup>(book: &ArrivalBook<S>, place: usize, auditor: &Auditor) -> Result<()> {
+    let Some(status) = book.status(auditor.shard) else {
+        bail!("the client has no such shard");
+    };
+    if Some(status.sent) != auditor.sums.of_client(place) {
+        bail!("a shard did not take what was sent to it");
+    }
+    Ok(())
+}
+
+/// What came in of a client is what its tracker sent.
+fn judge_tracker(tracker: &ServiceTracker, came: Counts) -> Result<()> {
+    let Some((delta, rho)) = tracker.sent(SERVER) else {
+        bail!("the tracker has no server");
+    };
+    if came != (Counts { delta, rho }) {
+        bail!("a tracker sent what did not come");
+    }
+    Ok(())
+}
+
+/// Whether each client's trackers and the shards' queues counted the same.
+fn judge<S: Setup>(clients: Vec<Client<S>>, auditors: &[Auditor]) -> Result<()> {
+    for (place, client) in clients.into_iter().enumerate() {
+        let Client {
+            arrivals,
+            tracker,
+            ..
+        } = client;
+        let book = arrivals.into_book();
+        judge_tracker(&tracker.into_inner(), book.came())?;
+        for auditor in auditors {
+            judge_shard(&book, place, auditor)?;
+        }
+    }
+    Ok(())
+}
+
+/// Settles the book of each shard's queue, and judges what the clients' threads counted. Returns how many requests were granted.
 pub fn settle<S: Setup>(alloc: Global, opened: Opened<S>) -> Result<u64> {
     let Opened {
         shared,
         requesters,
         workers,
-        auditors: _,
+        auditors,
     } = opened;
     let mut passes = Passes::new(alloc)?;
     passes.add_requesters(requesters)?;
     passes.add_workers(workers)?;
-    let Shared { server, .. } = shared;
+    let Shared {
+        server,
+        clients,
+        ..
+    } = shared;
+    judge(clients, auditors.as_slice())?;
     let Passes { of_shards } = passes;
     let mut grants: u64 = 0;
     for (queue, of_shard) in server.into_locks().into_iter().zip(of_shards) {

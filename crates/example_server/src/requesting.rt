@@ -8,7 +8,7 @@ use anyhow::{Error, Result, bail};
 use dmclock::locks::{
     ClientDesk, ClientPass, Setup, Stamp, StampTills, TickLock, TrackerLock, WorkerPass,
 };
-use dmclock::{ClientId, ClientInfo, Command, Cost, Moment, Token};
+use dmclock::{ClientId, ClientInfo, Command, Cost, Moment, Reply, Token};
 use example_threads::flow::BATCH;
 use std::rt::Clock;
 use std::sync::Wait;
@@ -60,8 +60,10 @@ impl<S: Setup> Requester<S> {
             info: ClientInfo::new(None, self.id.0.saturating_add(1), None)?,
             at: shared.now(rt)?,
         };
-        shared.queue.run(rt, &mut self.pass, command)?;
-        Ok(())
+        match shared.queue.run(rt, &mut self.pass, command)? {
+            Reply::Registered => Ok(()),
+            _ => bail!("a client is not registered"),
+        }
     }
 
     /// Waits until one of the first clients has had a part of its requests served, less than a tenth.

@@ -1,11 +1,12 @@
--- Small lists of calls on which the bounds are computed, with a history of dmc_history_laws as that of shard 0's queue. In those of the
--- limit a_1 came with delta 0, a_2 and a_3 with delta 1, and limit 20 grants a_2 at 50. In that of the reservation the rhos are the
--- deltas, a_2 is granted by weight at 0, and reservation 10 grants a_3 at 100.
+-- Small lists of calls on which the bounds are computed, with a history of dmc_history_laws as that of shard 0's queue.
 use Rattle.std.specs.Prelude.{ℕ, List, [], ◌∷◌}
 use Rattle.dmc_types.specs.Values.{Params}
 use Rattle.dmc_types.specs.declared.ids.ServerId.{ServerId}
 use Rattle.dmc_shards.specs.declared.call.ShardCall.{ShardCall}
 use Rattle.dmc_shards.specs.declared.call.ShardCall.TheVariants.{Arrive, GiveBack, Skip}
+
+-- In the history of the limit a_1 came with delta 0, a_2 and a_3 with delta 1, and limit 20 grants a_2 at 50. In that of the
+-- reservation the rhos are the deltas, a_2 is granted by weight at 0, and reservation 10 grants a_3 at 100.
 
 abbrev pub shard : ℕ → ServerId
 shard n = record { 0 = n }

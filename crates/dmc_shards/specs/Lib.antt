@@ -1,8 +1,7 @@
 -- A shard tracker's list of accepted calls, oldest first, and what its counts are. Two counts always go together: delta, of all
 -- that came in, and rho, of what of it is in the constraint phase.
 pub mod CallList
--- Small lists of calls on which the bounds are computed, with a history of dmc_history_laws as that of shard 0's queue: there a_1 came
--- with delta 0, a_2 and a_3 with delta 1, and limit 20 grants a_2 at 50.
+-- Small lists of calls on which the bounds are computed, with a history of dmc_history_laws as that of shard 0's queue.
 pub mod Examples
 -- What a shard tracker keeps, in the place of a list. No public clause cites this module.
 pub mod Kept

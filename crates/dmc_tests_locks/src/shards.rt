@@ -40,7 +40,7 @@ const NO_SHARD: ServerId = ServerId(2);
 /// More events than a test has.
 const MANY: u32 = 99;
 
-/// The lock of a shard without clients, which keeps at most so many events, and the pass of its worker.
+/// The lock of a shard without clients, which keeps at most this many events, and the pass of its worker.
 fn open_shard<S: Setup>(
     alloc: Global,
     mint: &mut Mint<S>,

@@ -8,7 +8,7 @@
 #define MOST_COST 65536
 
 struct cost_setting {
-  ngx_http_complex_value_t value;
+  struct request_text value;
   uint32_t unit; /* how much of the value costs 1 */
   uint32_t most;
 };
@@ -25,7 +25,7 @@ uint32_t request_cost(ngx_http_request_t *r)
   struct node_location *location = ngx_http_get_module_loc_conf(r, ngx_http_dmclock_module);
   ngx_str_t text;
   uint64_t number;
-  if (!location->cost || ngx_http_complex_value(r, &location->cost->value, &text) != NGX_OK ||
+  if (!location->cost || !request_text_of(r, &location->cost->value, &text) ||
       !text_read_number((const char *)text.data, text.len, UINT64_MAX, &number))
     return 1;
   return cost_of(location->cost, number);
@@ -61,12 +61,10 @@ char *cost_directive(ngx_conf_t *cf, ngx_command_t *command, void *where)
     return NGX_CONF_ERROR;
   setting->unit = 1;
   setting->most = MOST_COST;
-  ngx_http_compile_complex_value_t compile = {.cf = cf, .value = &words[1], .complex_value = &setting->value};
-  if (ngx_http_compile_complex_value(&compile) != NGX_OK)
+  if (request_text_read(cf, &words[1], &setting->value) != NGX_CONF_OK)
     return NGX_CONF_ERROR;
   uint64_t number;
-  bool is_fixed = setting->value.lengths == NULL;
-  if (is_fixed && (!text_read_number((const char *)words[1].data, words[1].len, UINT32_MAX, &number) || number == 0))
+  if (request_text_is_fixed(&setting->value) && (!text_read_number((const char *)words[1].data, words[1].len, UINT32_MAX, &number) || number == 0))
     return params_bad(cf, &words[1], "a number from 1 to 4294967295, or a text with variables");
   location->cost = setting;
   return params_read(cf, 2, cost_params, setting);

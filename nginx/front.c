@@ -249,7 +249,7 @@ static void wrap_peer(ngx_peer_connection_t *peer, struct passage *passage)
 static bool find_name(ngx_http_request_t *r, struct passage *passage)
 {
   ngx_str_t name;
-  if (ngx_http_complex_value(r, &passage->tracker->key, &name) != NGX_OK || name.len >= NAME_SIZE)
+  if (!request_text_of(r, &passage->tracker->key, &name) || name.len >= NAME_SIZE)
     return false;
   char *text = ngx_pnalloc(r->pool, name.len + 1);
   passage->name = text;
@@ -364,8 +364,7 @@ static char *tracker_directive(ngx_conf_t *cf, ngx_command_t *command, void *mai
   tracker->tenants.name = text_of(cf, &words[1]);
   tracker->tenants.counting = DMC_OTHERS;
   tracker->tenants.most = 1024;
-  ngx_http_compile_complex_value_t compile = {.cf = cf, .value = &words[2], .complex_value = &tracker->key};
-  if (!tracker->tenants.name || ngx_http_compile_complex_value(&compile) != NGX_OK)
+  if (!tracker->tenants.name || request_text_read(cf, &words[2], &tracker->key) != NGX_CONF_OK)
     return NGX_CONF_ERROR;
   return params_read(cf, 3, tracker_params, tracker);
 }

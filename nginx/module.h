@@ -48,6 +48,22 @@ char *params_time(ngx_conf_t *, const ngx_str_t *word, const ngx_str_t *value, u
 /* A text of C, in the memory of the configuration. NULL if memory is short. */
 char *text_of(ngx_conf_t *, const ngx_str_t *text);
 
+/* A text with variables. If it is one variable and nothing else, as a key mostly is, the text of a request is that variable's value, and
+   is not copied: that takes half as long. */
+struct request_text {
+  ngx_http_complex_value_t value;
+  ngx_int_t variable;         /* its index; NGX_ERROR if the text is anything else */
+};
+
+/* Reads such a text: a word of a directive. */
+char *request_text_read(ngx_conf_t *, ngx_str_t *word, struct request_text *);
+
+/* Whether it has no variables. */
+bool request_text_is_fixed(const struct request_text *);
+
+/* The text of a request. False if memory is short. */
+bool request_text_of(ngx_http_request_t *, struct request_text *, ngx_str_t *text);
+
 /* ---- a node */
 
 /* A client of the settings. */
@@ -60,7 +76,7 @@ struct client_setting {
 /* A zone with its settings. */
 struct node_zone {
   ngx_str_t name;
-  ngx_http_complex_value_t key;
+  struct request_text key;
   struct zone_config config;
   bool is_per_worker;         /* each worker has a queue of its own, and that is known */
   ngx_array_t clients;        /* struct client_setting * */
@@ -115,7 +131,7 @@ bool zones_agree(ngx_conf_t *, const struct node_main *);
 /* A tracker with its settings. */
 struct front_tracker {
   ngx_str_t name;
-  ngx_http_complex_value_t key;
+  struct request_text key;
   ngx_array_t servers;        /* ngx_addr_t */
   struct tenants tenants;     /* of a worker */
 };

@@ -158,6 +158,13 @@ struct stamp_headers {
   bool is_double;
 };
 
+/* Whether the name of a header, in lower case, begins as those of a stamp do: few do, and no more of the others is looked at. */
+static bool is_stamp_header(const ngx_str_t *name)
+{
+  size_t length = sizeof STAMP_HEADERS - 1;
+  return name->len > length && memcmp(name->data, STAMP_HEADERS, length) == 0;
+}
+
 static void take_header(struct stamp_headers *found, const ngx_str_t **value, const ngx_table_elt_t *header)
 {
   if (*value)
@@ -170,7 +177,7 @@ static void find_stamp(ngx_list_part_t *part, struct stamp_headers *found)
   ngx_table_elt_t *headers = part->elts;
   for (ngx_uint_t i = 0; i < part->nelts; i++) {
     ngx_str_t name = {headers[i].key.len, headers[i].lowcase_key};
-    if (!headers[i].hash)
+    if (!headers[i].hash || !is_stamp_header(&name))
       continue;
     if (is_word(&name, DELTA_HEADER))
       take_header(found, &found->delta, &headers[i]);
@@ -285,7 +292,7 @@ static struct client *find_client(struct visit *visit, uint64_t now, ngx_int_t *
   struct node_zone *zone = visit->zone;
   ngx_str_t key;
   char name[NAME_SIZE], printable[PRINTABLE_SIZE];
-  if (ngx_http_complex_value(visit->r, &zone->key, &key) != NGX_OK) {
+  if (!request_text_of(visit->r, &zone->key, &key)) {
     *status = NGX_HTTP_INTERNAL_SERVER_ERROR;
     return NULL;
   }

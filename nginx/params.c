@@ -25,6 +25,46 @@ char *text_of(ngx_conf_t *cf, const ngx_str_t *text)
   return copy;
 }
 
+/* ---- texts with variables */
+
+/* Whether a word of a directive, which ends with a byte 0, is `$NAME` alone. What begins with a digit is no variable, but a part of what a
+   regular expression matched. */
+static bool is_variable(const ngx_str_t *word)
+{
+  static const char letters[] = "ABCDEFGHIJKLMNOPQRSTUVWXYZabcdefghijklmnopqrstuvwxyz_0123456789";
+  const char *name = (const char *)word->data + 1;
+  return word->len > 1 && word->data[0] == '$' && (*name < '0' || '9' < *name) && strspn(name, letters) == word->len - 1;
+}
+
+char *request_text_read(ngx_conf_t *cf, ngx_str_t *word, struct request_text *found)
+{
+  found->variable = NGX_ERROR;
+  if (is_variable(word)) {
+    ngx_str_t name = {word->len - 1, word->data + 1};
+    found->variable = ngx_http_get_variable_index(cf, &name);
+    return found->variable == NGX_ERROR ? NGX_CONF_ERROR : NGX_CONF_OK;
+  }
+  ngx_http_compile_complex_value_t compile = {.cf = cf, .value = word, .complex_value = &found->value};
+  return ngx_http_compile_complex_value(&compile) == NGX_OK ? NGX_CONF_OK : NGX_CONF_ERROR;
+}
+
+bool request_text_is_fixed(const struct request_text *text)
+{
+  return text->variable == NGX_ERROR && text->value.lengths == NULL;
+}
+
+bool request_text_of(ngx_http_request_t *r, struct request_text *wanted, ngx_str_t *text)
+{
+  if (wanted->variable == NGX_ERROR)
+    return ngx_http_complex_value(r, &wanted->value, text) == NGX_OK;
+  const ngx_http_variable_value_t *value = ngx_http_get_flushed_variable(r, (ngx_uint_t)wanted->variable);
+  bool is_found = value && !value->not_found;
+  *text = is_found ? (ngx_str_t){value->len, value->data} : (ngx_str_t)ngx_string("");
+  return true;
+}
+
+/* ---- directives */
+
 char *params_bad(ngx_conf_t *cf, const ngx_str_t *word, const char *wanted)
 {
   ngx_str_t *words = cf->args->elts;

@@ -107,12 +107,6 @@ static struct node_zone *new_zone(ngx_conf_t *cf, struct node_main *node, const 
   return zone->config.name ? zone : NULL;
 }
 
-static char *compile_key(ngx_conf_t *cf, ngx_str_t *text, ngx_http_complex_value_t *key)
-{
-  ngx_http_compile_complex_value_t compile = {.cf = cf, .value = text, .complex_value = key};
-  return ngx_http_compile_complex_value(&compile) == NGX_OK ? NGX_CONF_OK : NGX_CONF_ERROR;
-}
-
 /* Fills in what depends on other parameters, and refuses what does not agree. */
 static char *complete_zone(ngx_conf_t *cf, struct node_zone *zone)
 {
@@ -138,7 +132,7 @@ char *zone_directive(ngx_conf_t *cf, ngx_command_t *command, void *main)
   if (words[1].len == 0 || is_word(&words[1], "off") || find_zone(main, &words[1]))
     return params_bad(cf, &words[1], "a name that no other zone has, and not off");
   struct node_zone *zone = new_zone(cf, main, &words[1]);
-  if (!zone || compile_key(cf, &words[2], &zone->key) != NGX_CONF_OK || params_read(cf, 3, zone_params, zone) != NGX_CONF_OK)
+  if (!zone || request_text_read(cf, &words[2], &zone->key) != NGX_CONF_OK || params_read(cf, 3, zone_params, zone) != NGX_CONF_OK)
     return NGX_CONF_ERROR;
   return complete_zone(cf, zone);
 }

@@ -133,6 +133,16 @@ static void end_wait(struct zone *zone, struct request *request)
 
 /* ---- the queue */
 
+/* The queue's moment of a time. A request is added and another one granted at one time, and a moment is a division of 128 bits. */
+static uint64_t moment_of(struct zone *zone, uint64_t now)
+{
+  if (zone->now != now) {
+    zone->now = now;
+    zone->moment = clock_moment(now);
+  }
+  return zone->moment;
+}
+
 static bool open_queue(struct zone *zone)
 {
   struct dmc_config config = DMC_CONFIG(DMC_FINE_HZ);
@@ -147,7 +157,7 @@ static bool open_queue(struct zone *zone)
 static uint32_t register_client(struct zone *zone, const struct client *client, uint64_t now)
 {
   const struct rates *rates = &client->rates;
-  return dmc_queue_register(&zone->queue, client->id, rates->reservation, rates->weight, rates->limit, clock_moment(now));
+  return dmc_queue_register(&zone->queue, client->id, rates->reservation, rates->weight, rates->limit, moment_of(zone, now));
 }
 
 /* Adds a request. A client that the queue does not know, or has forgotten, is registered before. It begins at the present, whatever its
@@ -155,7 +165,7 @@ static uint32_t register_client(struct zone *zone, const struct client *client, 
 static uint32_t add_request(struct zone *zone, const struct client *client, uint32_t token, struct dmc_stamp stamp, uint64_t now)
 {
   struct dmc_tags tags;
-  uint64_t moment = clock_moment(now);
+  uint64_t moment = moment_of(zone, now);
   uint32_t code = dmc_queue_add(&zone->queue, client->id, token, stamp.delta, stamp.rho, stamp.cost, moment, &tags);
   if (code != DMC_UNKNOWN)
     return code;
@@ -289,7 +299,7 @@ static struct request *grant(struct zone *zone, const struct dmc_pulled *pulled,
 /* Asks the queue for the next request. False if it grants none now. */
 static bool pull(struct zone *zone, struct dmc_pulled *pulled, uint64_t now)
 {
-  uint32_t code = dmc_queue_pull(&zone->queue, clock_moment(now), pulled);
+  uint32_t code = dmc_queue_pull(&zone->queue, moment_of(zone, now), pulled);
   if (code != DMC_OK) {
     zone->fault = dmc_text(code);
     return false;
@@ -335,7 +345,8 @@ static int by_name(const void *a, const void *b)
 
 struct client *zone_find(const struct zone *zone, const char *name)
 {
-  struct client wanted = {.name = (char *)name};
+  struct client wanted; /* the tree reads the name alone */
+  wanted.name = (char *)name;
   struct client **found = tfind(&wanted, &zone->names, by_name);
   return found ? *found : NULL;
 }
@@ -432,7 +443,7 @@ static void forget_clients(struct zone *zone, uint64_t now)
 static void clean(struct zone *zone, uint64_t now)
 {
   uint32_t idled, erased;
-  dmc_queue_clean(&zone->queue, clock_moment(now), &idled, &erased);
+  dmc_queue_clean(&zone->queue, moment_of(zone, now), &idled, &erased);
   forget_clients(zone, now);
   zone->next_clean = now + zone->config.idle / 4 + 1;
 }

@@ -71,6 +71,7 @@ struct place;
 struct zone {
   struct zone_config config;
   struct dmc_queue queue;
+  uint64_t now, moment;    /* a time, and its moment: mostly that of the last call */
   uint32_t under_way;      /* requests at the device */
   uint32_t waiting;        /* requests that wait */
   uint32_t queued;         /* requests in the queue; those beyond `waiting` are given up */

@@ -5,11 +5,17 @@
 
 #include "stamp.h"
 
-/* How many columns a count takes, filled up by blanks before it, as HTTP allows. */
-#define COUNT_COLUMNS 10
+/* The lines of a stamp. A count takes ten columns, filled up by blanks before it, as HTTP allows. */
+#define COUNT "         0"
+#define COUNT_COLUMNS (sizeof COUNT - 1)
+#define COUNT_LINES DELTA_HEADER ": " COUNT "\r\n" RHO_HEADER ": " COUNT "\r\n" COST_HEADER ": " COUNT "\r\n"
 #define COUNTING_LINE COUNTING_HEADER ": " COUNTING_ALL "\r\n"
-#define ROOM \
-  (sizeof DELTA_HEADER ": 0123456789\r\n" RHO_HEADER ": 0123456789\r\n" COST_HEADER ": 0123456789\r\n" COUNTING_LINE - 1)
+#define ROOM (sizeof COUNT_LINES COUNTING_LINE - 1)
+
+/* Where the counts are in these lines. */
+#define DELTA_AT (sizeof DELTA_HEADER ": " - 1)
+#define RHO_AT (DELTA_AT + sizeof COUNT "\r\n" RHO_HEADER ": " - 1)
+#define COST_AT (RHO_AT + sizeof COUNT "\r\n" COST_HEADER ": " - 1)
 
 struct front_upstream {
   struct front_tracker *tracker;
@@ -63,12 +69,6 @@ static u_char *copy_without_stamps(u_char *to, u_char *at, u_char *last)
   return ngx_cpymem(to, at, last - at);
 }
 
-static u_char *put_header(u_char *to, const char *header, u_char **count)
-{
-  *count = ngx_cpymem(to, header, strlen(header));
-  return ngx_cpymem(*count, "         0\r\n", COUNT_COLUMNS + 2);
-}
-
 /* Writes a count into its columns, with at least one digit. */
 static void write_count(u_char *at, uint32_t count)
 {
@@ -82,13 +82,12 @@ static void write_count(u_char *at, uint32_t count)
 /* Puts the lines of a stamp, whose counts are written later. */
 static u_char *put_stamp(u_char *to, struct passage *passage)
 {
-  u_char *cost;
-  to = put_header(to, DELTA_HEADER ": ", &passage->delta);
-  to = put_header(to, RHO_HEADER ": ", &passage->rho);
-  to = put_header(to, COST_HEADER ": ", &cost);
-  write_count(cost, passage->cost);
   bool is_all = passage->tracker->tenants.counting == DMC_ALL;
-  return is_all ? ngx_cpymem(to, COUNTING_LINE, sizeof COUNTING_LINE - 1) : to;
+  passage->delta = to + DELTA_AT;
+  passage->rho = to + RHO_AT;
+  u_char *end = ngx_cpymem(to, COUNT_LINES COUNTING_LINE, is_all ? ROOM : sizeof COUNT_LINES - 1);
+  write_count(to + COST_AT, passage->cost);
+  return end;
 }
 
 /* Makes the head anew, with room for a stamp after its first line. It stays in the first buffer, where nginx expects it, and a
@@ -141,24 +140,31 @@ static void stamp(struct passage *passage, ngx_peer_connection_t *peer)
   write_count(passage->rho, written.rho);
 }
 
-static const ngx_str_t *find_header(const ngx_list_part_t *part, const char *name)
+/* What a response says of stamps; NULL if it does not say it. */
+struct report {
+  const ngx_str_t *phase, *abandoned;
+};
+
+static void find_report(const ngx_list_part_t *part, struct report *report)
 {
   const ngx_table_elt_t *headers = part->elts;
   for (ngx_uint_t i = 0; i < part->nelts; i++) {
-    ngx_str_t key = {headers[i].key.len, headers[i].lowcase_key};
-    if (headers[i].hash && is_word(&key, name))
-      return &headers[i].value;
+    ngx_str_t name = {headers[i].key.len, headers[i].lowcase_key};
+    if (!headers[i].hash || !is_stamp_header(&name))
+      continue;
+    if (!report->phase && is_word(&name, PHASE_HEADER))
+      report->phase = &headers[i].value;
+    else if (!report->abandoned && is_word(&name, ABANDONED_HEADER))
+      report->abandoned = &headers[i].value;
   }
-  return NULL;
 }
 
-/* A header of the response; NULL if it has none of this name. */
-static const ngx_str_t *header_of(const ngx_http_upstream_t *upstream, const char *name)
+static struct report report_of(const ngx_http_upstream_t *upstream)
 {
-  const ngx_str_t *value = NULL;
-  for (const ngx_list_part_t *part = &upstream->headers_in.headers.part; part && !value; part = part->next)
-    value = find_header(part, name);
-  return value;
+  struct report report = {NULL, NULL};
+  for (const ngx_list_part_t *part = &upstream->headers_in.headers.part; part; part = part->next)
+    find_report(part, &report);
+  return report;
 }
 
 /* Whether a try has a response. Without a connection, what nginx knows is of an earlier one. */
@@ -167,29 +173,26 @@ static bool has_response(const ngx_http_upstream_t *upstream, const ngx_peer_con
   return peer->connection && upstream->request_sent && upstream->headers_in.status_n;
 }
 
-/* What became of a try. A request that was sent only in part is not in the queue yet, if the server reads bodies before; a connection that
-   was kept and ends without a response, in time, was closed before the request came. Any other request without a response has reached the
-   queue, which cancels it; if it was granted before, a later response says so. */
-static enum outcome outcome_of_try(const struct passage *passage, const ngx_peer_connection_t *peer, ngx_uint_t state)
+/* What became of a try that has no response. A request that was sent only in part is not in the queue yet, if the server reads bodies
+   before; a connection that was kept and ends without a response, in time, was closed before the request came. Any other request has
+   reached the queue, which cancels it; if it was granted before, a later response says so. */
+static enum outcome outcome_without_response(const struct passage *passage, const ngx_peer_connection_t *peer, ngx_uint_t state)
 {
   const ngx_http_upstream_t *upstream = passage->upstream;
-  if (has_response(upstream, peer)) {
-    const ngx_str_t *phase = header_of(upstream, PHASE_HEADER);
-    return phase ? outcome_of((const char *)phase->data, phase->len) : outcome_of(NULL, 0);
-  }
   if (!peer->connection || !upstream->request_sent || !upstream->request_body_sent)
     return OUTCOME_RETURNED;
   bool is_closed_before = peer->cached && (state & NGX_PEER_FAILED) && !peer->connection->read->timedout;
   return is_closed_before ? OUTCOME_RETURNED : OUTCOME_EXPIRED;
 }
 
-/* Counts what the server says of abandoned requests of the tenant. */
-static void add_abandoned(struct passage *passage, const ngx_peer_connection_t *peer)
+/* What became of a try. What the server says of abandoned requests of the tenant is counted before. */
+static enum outcome take_response(struct passage *passage)
 {
   uint32_t costs[2];
-  const ngx_str_t *abandoned = has_response(passage->upstream, peer) ? header_of(passage->upstream, ABANDONED_HEADER) : NULL;
-  if (abandoned && stamp_read_abandoned((const char *)abandoned->data, abandoned->len, costs))
+  struct report report = report_of(passage->upstream);
+  if (report.abandoned && stamp_read_abandoned((const char *)report.abandoned->data, report.abandoned->len, costs))
     tenants_add(&passage->tracker->tenants, &passage->try, costs);
+  return report.phase ? outcome_of((const char *)report.phase->data, report.phase->len) : outcome_of(NULL, 0);
 }
 
 /* ---- what nginx calls in place of the upstream's selection */
@@ -208,8 +211,9 @@ static void free_peer(ngx_peer_connection_t *peer, void *data, ngx_uint_t state)
 {
   struct passage *passage = data;
   if (passage->is_under_way) {
-    add_abandoned(passage, peer);
-    tenants_end(&passage->tracker->tenants, &passage->try, outcome_of_try(passage, peer, state));
+    bool has_one = has_response(passage->upstream, peer);
+    enum outcome outcome = has_one ? take_response(passage) : outcome_without_response(passage, peer, state);
+    tenants_end(&passage->tracker->tenants, &passage->try, outcome);
   }
   passage->is_under_way = false;
   passage->free(peer, passage->data, state);

@@ -6,6 +6,7 @@
 #include <ngx_core.h>
 #include <ngx_http.h>
 
+#include "stamp.h"
 #include "tenants.h"
 #include "zone.h"
 
@@ -17,6 +18,13 @@ extern ngx_module_t ngx_dmclock_check_module;      /* compares settings of diffe
 static inline bool is_word(const ngx_str_t *text, const char *word)
 {
   return text->len == strlen(word) && memcmp(text->data, word, text->len) == 0;
+}
+
+/* Whether the name of a header, in lower case, begins as those of stamps do: few do, and no more of the others is looked at. */
+static inline bool is_stamp_header(const ngx_str_t *name)
+{
+  size_t length = sizeof STAMP_HEADERS - 1;
+  return name->len > length && memcmp(name->data, STAMP_HEADERS, length) == 0;
 }
 
 /* The longest name of a client or a tenant, with its end. */

@@ -158,13 +158,6 @@ struct stamp_headers {
   bool is_double;
 };
 
-/* Whether the name of a header, in lower case, begins as those of a stamp do: few do, and no more of the others is looked at. */
-static bool is_stamp_header(const ngx_str_t *name)
-{
-  size_t length = sizeof STAMP_HEADERS - 1;
-  return name->len > length && memcmp(name->data, STAMP_HEADERS, length) == 0;
-}
-
 static void take_header(struct stamp_headers *found, const ngx_str_t **value, const ngx_table_elt_t *header)
 {
   if (*value)

@@ -50,6 +50,19 @@ static char *set_most(ngx_conf_t *cf, void *setting, const ngx_str_t *word, cons
 
 static const struct param cost_params[] = {{"unit=", set_unit}, {"most=", set_most}, {NULL, NULL}};
 
+/* A number of the settings that costs more than the most would cost less than they say, in each request. */
+static char *check_fixed(ngx_conf_t *cf, const struct cost_setting *setting, const ngx_str_t *word)
+{
+  uint64_t number, most = (uint64_t)setting->unit * setting->most;
+  if (!text_read_number((const char *)word->data, word->len, UINT64_MAX, &number) || number == 0)
+    return params_bad(cf, word, "a number from 1 on, or a text with variables");
+  if (number <= most)
+    return NGX_CONF_OK;
+  char wanted[96];
+  snprintf(wanted, sizeof wanted, "a number up to %llu, so that a request costs no more than most=%u", (unsigned long long)most, setting->most);
+  return params_bad(cf, word, wanted);
+}
+
 char *cost_directive(ngx_conf_t *cf, ngx_command_t *command, void *where)
 {
   ngx_str_t *words = cf->args->elts;
@@ -59,13 +72,10 @@ char *cost_directive(ngx_conf_t *cf, ngx_command_t *command, void *where)
   struct cost_setting *setting = ngx_pcalloc(cf->pool, sizeof *setting);
   if (!setting)
     return NGX_CONF_ERROR;
+  location->cost = setting;
   setting->unit = 1;
   setting->most = MOST_COST;
-  if (request_text_read(cf, &words[1], &setting->value) != NGX_CONF_OK)
+  if (request_text_read(cf, &words[1], &setting->value) != NGX_CONF_OK || params_read(cf, 2, cost_params, setting) != NGX_CONF_OK)
     return NGX_CONF_ERROR;
-  uint64_t number;
-  if (request_text_is_fixed(&setting->value) && (!text_read_number((const char *)words[1].data, words[1].len, UINT32_MAX, &number) || number == 0))
-    return params_bad(cf, &words[1], "a number from 1 to 4294967295, or a text with variables");
-  location->cost = setting;
-  return params_read(cf, 2, cost_params, setting);
+  return request_text_is_fixed(&setting->value) ? check_fixed(cf, setting, &words[1]) : NGX_CONF_OK;
 }

@@ -4,6 +4,7 @@
 
 #include <ngx_config.h>
 #include <ngx_core.h>
+#include <ngx_event.h>
 #include <ngx_http.h>
 
 #include "stamp.h"
@@ -86,6 +87,7 @@ struct node_zone {
   ngx_str_t name;
   struct request_text key;
   struct zone_config config;
+  bool has_queue;             /* queue= is given */
   bool is_per_worker;         /* each worker has a queue of its own, and that is known */
   ngx_array_t clients;        /* struct client_setting * */
   ngx_rbtree_t names;

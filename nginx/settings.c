@@ -23,9 +23,11 @@ static char *set_depth(ngx_conf_t *cf, void *zone, const ngx_str_t *word, const 
   return params_number(cf, word, value, MOST_DEPTH, &((struct node_zone *)zone)->config.depth);
 }
 
-static char *set_queue(ngx_conf_t *cf, void *zone, const ngx_str_t *word, const ngx_str_t *value)
+static char *set_queue(ngx_conf_t *cf, void *where, const ngx_str_t *word, const ngx_str_t *value)
 {
-  return params_number(cf, word, value, MOST_QUEUED, &((struct node_zone *)zone)->config.most_queued);
+  struct node_zone *zone = where;
+  zone->has_queue = true;
+  return params_number(cf, word, value, MOST_QUEUED, &zone->config.most_queued);
 }
 
 static char *set_client_queue(ngx_conf_t *cf, void *zone, const ngx_str_t *word, const ngx_str_t *value)
@@ -376,24 +378,45 @@ bool zones_agree(ngx_conf_t *cf, const struct node_main *node)
   return agree;
 }
 
-/* A zone's queue is of one process. Several workers have several queues, each with its depth and the limits, which has to be known. The
-   number of workers may come after the zones in the file, so it is compared at its end. */
-static char *check_workers(ngx_cycle_t *cycle, void *unused)
+/* A zone's queue is of one process. Several workers have several queues, each with its depth and the limits, which has to be known. */
+static char *check_workers(const ngx_cycle_t *cycle, const struct node_zone *zone)
 {
   ngx_core_conf_t *core = (ngx_core_conf_t *)ngx_get_conf(cycle->conf_ctx, ngx_core_module);
-  struct node_main *node = ngx_http_cycle_get_module_main_conf(cycle, ngx_http_dmclock_module);
-  struct node_zone **zones = node ? node->zones.elts : NULL;
-  for (ngx_uint_t i = 0; node && i < node->zones.nelts; i++)
-    if (core->worker_processes > 1 && !zones[i]->is_per_worker) {
-      ngx_log_error(NGX_LOG_EMERG, cycle->log, 0,
-                    "worker_processes %i: each worker has a queue of its own of dmclock_zone \"%V\", with its depth and its limits: "
-                    "wanted is worker_processes 1, or per_worker in the dmclock_zone", core->worker_processes, &zones[i]->name);
-      return NGX_CONF_ERROR;
-    }
-  return NGX_CONF_OK;
+  if (core->worker_processes <= 1 || zone->is_per_worker)
+    return NGX_CONF_OK;
+  ngx_log_error(NGX_LOG_EMERG, cycle->log, 0,
+                "worker_processes %i: each worker has a queue of its own of dmclock_zone \"%V\", with its depth and its limits: "
+                "wanted is worker_processes 1, or per_worker in the dmclock_zone", core->worker_processes, &zone->name);
+  return NGX_CONF_ERROR;
 }
 
-static ngx_core_module_t check_context = {ngx_string("dmclock_check"), NULL, check_workers};
+/* Warns of a queue that is asked for and would never be full, since nginx has no connections for it. It is no error: requests of HTTP/2
+   share connections. */
+static void check_connections(const ngx_cycle_t *cycle, const struct node_zone *zone)
+{
+  const ngx_event_conf_t *events = ngx_event_get_conf(cycle->conf_ctx, ngx_event_core_module);
+  const struct zone_config *config = &zone->config;
+  if (zone->has_queue && events->connections < config->most_queued + config->depth)
+    ngx_log_error(NGX_LOG_WARN, cycle->log, 0,
+                  "queue=%uD and depth=%uD of dmclock_zone \"%V\" are more than worker_connections %ui: each of these requests is a "
+                  "connection, unless it came by HTTP/2, and nginx closes further ones before the queue is full", config->most_queued,
+                  config->depth, &zone->name, events->connections);
+}
+
+/* What is compared with the zones may come after them in the file, so it is compared at its end. */
+static char *check_zones(ngx_cycle_t *cycle, void *unused)
+{
+  struct node_main *node = ngx_http_cycle_get_module_main_conf(cycle, ngx_http_dmclock_module);
+  struct node_zone **zones = node ? node->zones.elts : NULL;
+  char *result = NGX_CONF_OK;
+  for (ngx_uint_t i = 0; node && i < node->zones.nelts && result == NGX_CONF_OK; i++) {
+    check_connections(cycle, zones[i]);
+    result = check_workers(cycle, zones[i]);
+  }
+  return result;
+}
+
+static ngx_core_module_t check_context = {ngx_string("dmclock_check"), NULL, check_zones};
 
 static ngx_command_t check_commands[] = {ngx_null_command};
 

@@ -254,11 +254,10 @@ static ngx_int_t refuse(struct visit *visit, const char *reason, ngx_int_t statu
   return status;
 }
 
-/* The status of requests that the zone refuses. When to come again is said if the queue says it. */
-static ngx_int_t reject(struct visit *visit, const char *reason, uint64_t now)
+/* The status of requests that the zone refuses. After how many nanoseconds to come again is said, if it is not 0. */
+static ngx_int_t reject(struct visit *visit, const char *reason, uint64_t nanos)
 {
   struct node_location *location = ngx_http_get_module_loc_conf(visit->r, ngx_http_dmclock_module);
-  uint64_t nanos = zone_retry_after(&visit->zone->zone, now);
   visit->retry_after = nanos ? (nanos - 1) / SECOND + 1 : 0;
   return refuse(visit, reason, (ngx_int_t)location->reject);
 }
@@ -295,13 +294,25 @@ static struct client *find_client(struct visit *visit, uint64_t now, ngx_int_t *
     return client;
   zone->zone.unknown++;
   if (is_name && zone->has_others) {
-    *status = reject(visit, "there are too many other names", now);
+    *status = reject(visit, "there are too many other names", 0);
     return NULL;
   }
   ngx_log_error(NGX_LOG_INFO, visit->r->connection->log, 0, "dmclock zone \"%V\" has no client \"%s\"", &zone->name,
                 is_name ? text_printable(name, printable) : "(a name that is too long, or has a byte 0)");
   *status = refuse(visit, "its name is no client", NGX_HTTP_FORBIDDEN);
   return NULL;
+}
+
+/* After how long a request that is refused may come again; 0 if that is not known. */
+static uint64_t retry_after(const struct visit *visit, enum refusal refusal, const struct client *client, uint64_t now)
+{
+  const struct zone *zone = &visit->zone->zone;
+  switch (refusal) {
+    case REFUSED_LIMIT: return zone_limit_after(zone, client, visit->stamp, now);
+    case REFUSED_FULL:
+    case REFUSED_CLIENT_FULL: return zone_retry_after(zone, now);
+    default: return 0;
+  }
 }
 
 static ngx_int_t enter(struct visit *visit)
@@ -317,7 +328,7 @@ static ngx_int_t enter(struct visit *visit)
   struct request *woken;
   enum refusal refusal = zone_enter(&zone->zone, &visit->request, client, visit->stamp, now, &woken);
   if (refusal)
-    return reject(visit, refusal_text(refusal), now);
+    return reject(visit, refusal_text(refusal), retry_after(visit, refusal, client, now));
   wake(woken);
   set_timer(zone, now);
   return visit->request.state == REQUEST_GRANTED ? NGX_DECLINED : suspend(visit);
@@ -370,7 +381,7 @@ static ngx_int_t handle(ngx_http_request_t *r)
   switch (visit->request.state) {
     case REQUEST_NEW: return enter(visit);
     case REQUEST_WAITS: return NGX_AGAIN;
-    case REQUEST_EXPIRED: return reject(visit, "it waited for too long", now_of(visit->zone));
+    case REQUEST_EXPIRED: return reject(visit, "it waited for too long", zone_retry_after(&visit->zone->zone, now_of(visit->zone)));
     default: return NGX_DECLINED;
   }
 }

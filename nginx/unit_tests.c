@@ -423,8 +423,33 @@ static void rejected(void)
   CHECK(is_granted(zone, &first, batch, start) && zone_leave(zone, &first, start + 1) == NULL);
   CHECK(zone_enter(zone, &second, batch, one, early, &woken) == REFUSED_LIMIT && woken == NULL && second.state == REQUEST_NEW);
   CHECK(batch->refused == 1 && zone->queued == 0 && strcmp(refusal_text(REFUSED_LIMIT), "the client is over its limit") == 0);
+  CHECK(zone_limit_after(zone, batch, one, early) == start + SECOND / 20 - early && zone_retry_after(zone, early) == 0);
   CHECK(!is_granted(zone, &second, batch, soon) && zone_next_turn(zone) == due && zone_turn(zone, due) == &second);
   zone_leave(zone, &second, due + 1);
+  zone_close(zone);
+}
+
+/* When a request that is over its client's limit may come again: by that client's tags and its own stamp, whatever others wait for. */
+static void limited_again(void)
+{
+  struct zone_config config = one_at_once;
+  config.at_limit = DMC_REJECT;
+  struct zone *zone = opened(&config);
+  struct client *batch = client(zone, "batch", 0, 1, 10), *gold = client(zone, "gold", 0, 1, 0);
+  struct request request, *woken;
+  uint64_t start = SECOND, tenth = SECOND / 10;
+  CHECK(zone_limit_after(zone, batch, one, start) == 0 && zone_limit_after(zone, gold, one, start) == 0);
+  CHECK(is_granted(zone, &request, batch, start) && refusal(zone, batch, start + 1) == REFUSED_LIMIT);
+  CHECK(zone_limit_after(zone, batch, one, start + 1) == tenth - 1 && zone_limit_after(zone, batch, one, start + tenth) == 0);
+  CHECK(zone_limit_after(zone, batch, (struct dmc_stamp){5, 0, 1}, start + 1) == 5 * tenth - 1);
+  CHECK(zone_limit_after(zone, batch, (struct dmc_stamp){UINT32_MAX, 0, 1}, start) == UINT32_MAX * tenth);
+  zone_leave(zone, &request, start + 2);
+  request = (struct request){.counting = DMC_OTHERS};
+  CHECK(zone_enter(zone, &request, batch, one, start + tenth, &woken) == REFUSED_NOT && woken == &request);
+  CHECK(zone_limit_after(zone, batch, one, start + tenth) == tenth);
+  zone_leave(zone, &request, start + tenth);
+  batch->limit_tag = NEVER;
+  CHECK(zone_limit_after(zone, batch, one, start + tenth) == 0);
   zone_close(zone);
 }
 
@@ -792,6 +817,7 @@ int main(void)
   cancelled_and_forgotten();
   lost_in_queue();
   rejected();
+  limited_again();
   limited();
   reserved();
   stamped();

@@ -160,17 +160,27 @@ static uint32_t register_client(struct zone *zone, const struct client *client, 
   return dmc_queue_register(&zone->queue, client->id, rates->reservation, rates->weight, rates->limit, moment_of(zone, now));
 }
 
-/* Adds a request. A client that the queue does not know, or has forgotten, is registered before. It begins at the present, whatever its
+/* Gives the queue a request. A client that it does not know, or has forgotten, is registered before. It begins at the present, whatever its
    stamp counts: what completed elsewhere before the queue was made, or while the client was away for so long, is no debt. */
-static uint32_t add_request(struct zone *zone, const struct client *client, uint32_t token, struct dmc_stamp stamp, uint64_t now)
+static uint32_t give_request(struct zone *zone, const struct client *client, uint32_t token, struct dmc_stamp stamp, uint64_t now,
+                             struct dmc_tags *tags)
 {
-  struct dmc_tags tags;
   uint64_t moment = moment_of(zone, now);
-  uint32_t code = dmc_queue_add(&zone->queue, client->id, token, stamp.delta, stamp.rho, stamp.cost, moment, &tags);
+  uint32_t code = dmc_queue_add(&zone->queue, client->id, token, stamp.delta, stamp.rho, stamp.cost, moment, tags);
   if (code != DMC_UNKNOWN)
     return code;
   code = register_client(zone, client, now);
-  return code == DMC_OK ? dmc_queue_add(&zone->queue, client->id, token, 0, 0, stamp.cost, moment, &tags) : code;
+  return code == DMC_OK ? dmc_queue_add(&zone->queue, client->id, token, 0, 0, stamp.cost, moment, tags) : code;
+}
+
+/* Adds a request, and keeps what its limit will be compared with for the next one. */
+static uint32_t add_request(struct zone *zone, struct client *client, uint32_t token, struct dmc_stamp stamp, uint64_t now)
+{
+  struct dmc_tags tags;
+  uint32_t code = give_request(zone, client, token, stamp, now, &tags);
+  if (code == DMC_OK)
+    client->limit_tag = tags.l.high == 0 ? tags.l.low : NEVER;
+  return code;
 }
 
 static enum refusal refusal_of(uint32_t code)
@@ -589,6 +599,16 @@ uint64_t zone_next_turn(const struct zone *zone)
 uint64_t zone_retry_after(const struct zone *zone, uint64_t now)
 {
   return zone->due != NEVER && now < zone->due ? zone->due - now : 0;
+}
+
+uint64_t zone_limit_after(const struct zone *zone, const struct client *client, struct dmc_stamp stamp, uint64_t now)
+{
+  uint64_t spacing = client->rates.limit ? DMC_FINE_HZ / client->rates.limit : 0;
+  uint64_t tag = 0, threshold = clock_age(zone->config.threshold);
+  if (__builtin_add_overflow(client->limit_tag, stamp.delta * spacing, &tag) || tag < threshold)
+    return 0;
+  uint64_t due = clock_due(tag - threshold, 0);
+  return due != NEVER && now < due ? due - now : 0;
 }
 
 const char *refusal_text(enum refusal refusal)

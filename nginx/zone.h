@@ -46,6 +46,7 @@ struct client {
   uint64_t refused, left, expired; /* requests that were not queued; that left while they waited; that waited for too long */
   uint64_t abandoned[2];   /* what grants cost, by dmc_phase, that their trackers do not know of: the caller counts them */
   uint64_t last_request;
+  uint64_t limit_tag;      /* the limit tag that its last request was queued with, in ticks of the queue; NEVER if it is more than that */
   struct buckets waited[2]; /* from entering to the grant, by dmc_phase */
   struct client *next, **link; /* the next one, and what points to this one */
   struct client *next_giving_up; /* of those that may have requests that are given up */
@@ -133,6 +134,11 @@ uint64_t zone_next_turn(const struct zone *);
 
 /* How long until the queue may have room, as far as the queue says it; 0 if it does not. */
 uint64_t zone_retry_after(const struct zone *, uint64_t now);
+
+/* How long until a request of such a stamp, which was REFUSED_LIMIT, may be queued, if its client queues no other before; 0 if that is
+   not known. It is less if requests of the client were cancelled since its last one: how far that moved its tags back, the queue does
+   not say. */
+uint64_t zone_limit_after(const struct zone *, const struct client *, struct dmc_stamp, uint64_t now);
 
 /* A text for a refusal. */
 const char *refusal_text(enum refusal);

@@ -80,6 +80,7 @@ struct client_setting {
   ngx_str_node_t node; /* of a tree by name */
   char *name;
   struct rates rates;
+  uint32_t queue;             /* how many of its requests wait at most; 0 if that is the zone's client_queue */
 };
 
 /* A zone with its settings. */
@@ -94,6 +95,7 @@ struct node_zone {
   ngx_rbtree_node_t sentinel;
   bool has_others, is_shared; /* whether other names are clients, and whether all of them are one */
   struct rates others;
+  uint32_t others_queue;      /* of each of them, as of a client */
   /* of a worker */
   struct zone zone;
   uint64_t start;             /* when the zone was opened */

@@ -236,13 +236,21 @@ static void make_stamp(struct visit *visit)
 
 /* ---- clients */
 
+/* A client that was just made, with as many of its requests that wait as the settings say, if they do. */
+static struct client *with_queue(struct client *client, uint32_t queue)
+{
+  if (client && queue)
+    client->most_waiting = queue;
+  return client;
+}
+
 /* The client of a name: one of the settings, or one of the other names. NULL if there is none, or if there are too many. */
 static struct client *client_of(struct node_zone *zone, const char *name, uint64_t now)
 {
   struct client *client = zone_find(&zone->zone, name);
   if (client || !zone->has_others)
     return client;
-  return zone->is_shared ? zone->shared : zone_client(&zone->zone, name, &zone->others, false, now);
+  return zone->is_shared ? zone->shared : with_queue(zone_client(&zone->zone, name, &zone->others, false, now), zone->others_queue);
 }
 
 /* ---- entering */
@@ -495,10 +503,10 @@ static bool add_clients(struct node_zone *zone)
 {
   struct client_setting **clients = zone->clients.elts;
   if (zone->is_shared)
-    zone->shared = zone_client(&zone->zone, "dmclock-default", &zone->others, true, 0);
+    zone->shared = with_queue(zone_client(&zone->zone, "dmclock-default", &zone->others, true, 0), zone->others_queue);
   bool is_added = !zone->is_shared || zone->shared;
   for (ngx_uint_t i = 0; i < zone->clients.nelts && is_added; i++)
-    is_added = zone_client(&zone->zone, clients[i]->name, &clients[i]->rates, true, 0) != NULL;
+    is_added = with_queue(zone_client(&zone->zone, clients[i]->name, &clients[i]->rates, true, 0), clients[i]->queue) != NULL;
   return is_added;
 }
 

@@ -144,6 +144,7 @@ char *zone_directive(ngx_conf_t *cf, ngx_command_t *command, void *main)
 /* What a directive says of clients. */
 struct rates_setting {
   struct rates asked;
+  uint32_t queue; /* how many of its requests wait, or 0 */
   uint32_t most;  /* clients, or 0 */
   bool is_shared;
 };
@@ -163,6 +164,11 @@ static char *set_limit(ngx_conf_t *cf, void *setting, const ngx_str_t *word, con
   return params_number(cf, word, value, UINT32_MAX, &((struct rates_setting *)setting)->asked.limit);
 }
 
+static char *set_waiting(ngx_conf_t *cf, void *setting, const ngx_str_t *word, const ngx_str_t *value)
+{
+  return params_number(cf, word, value, MOST_QUEUED, &((struct rates_setting *)setting)->queue);
+}
+
 static char *set_clients(ngx_conf_t *cf, void *setting, const ngx_str_t *word, const ngx_str_t *value)
 {
   return params_number(cf, word, value, MOST_CLIENTS, &((struct rates_setting *)setting)->most);
@@ -176,12 +182,12 @@ static char *set_shared(ngx_conf_t *cf, void *where, const ngx_str_t *word, cons
 }
 
 static const struct param client_params[] = {
-  {"reservation=", set_reservation}, {"weight=", set_weight}, {"limit=", set_limit}, {NULL, NULL},
+  {"reservation=", set_reservation}, {"weight=", set_weight}, {"limit=", set_limit}, {"queue=", set_waiting}, {NULL, NULL},
 };
 
 static const struct param default_params[] = {
-  {"reservation=", set_reservation}, {"weight=", set_weight}, {"limit=", set_limit}, {"clients=", set_clients}, {"shared", set_shared},
-  {NULL, NULL},
+  {"reservation=", set_reservation}, {"weight=", set_weight}, {"limit=", set_limit}, {"queue=", set_waiting},
+  {"clients=", set_clients}, {"shared", set_shared}, {NULL, NULL},
 };
 
 static void say_rate(ngx_conf_t *cf, const ngx_str_t *name, const char *rate, uint32_t asked, uint32_t found)
@@ -203,13 +209,15 @@ static char *round_rates(ngx_conf_t *cf, const ngx_str_t *name, const struct rat
   return NGX_CONF_OK;
 }
 
-/* Reads the rates of the words from one on. A weight that is not given is 1. */
-static char *read_rates(ngx_conf_t *cf, ngx_uint_t from, const struct param *params, const ngx_str_t *name, struct rates_setting *setting,
-                        struct rates *found)
+/* Reads what is said of clients of a zone, from a word on. A weight that is not given is 1. */
+static char *read_rates(ngx_conf_t *cf, ngx_uint_t from, const struct param *params, const struct node_zone *zone, const ngx_str_t *name,
+                        struct rates_setting *setting, struct rates *found)
 {
   *setting = (struct rates_setting){0};
   if (params_read(cf, from, params, setting) != NGX_CONF_OK)
     return NGX_CONF_ERROR;
+  if (setting->queue > zone->config.most_queued)
+    return params_bad(cf, name, "a queue that is not past that of the zone");
   if (!setting->asked.weight)
     setting->asked.weight = 1;
   return round_rates(cf, name, &setting->asked, found);
@@ -243,7 +251,10 @@ static char *add_client(ngx_conf_t *cf, struct node_zone *zone, ngx_uint_t place
   client->name = text_of(cf, name);
   ngx_rbtree_insert(&zone->names, &client->node.node);
   struct rates_setting setting;
-  return client->name ? read_rates(cf, place + 1, client_params, name, &setting, &client->rates) : NGX_CONF_ERROR;
+  if (!client->name || read_rates(cf, place + 1, client_params, zone, name, &setting, &client->rates) != NGX_CONF_OK)
+    return NGX_CONF_ERROR;
+  client->queue = setting.queue;
+  return NGX_CONF_OK;
 }
 
 char *client_directive(ngx_conf_t *cf, ngx_command_t *command, void *main)
@@ -282,12 +293,13 @@ char *default_directive(ngx_conf_t *cf, ngx_command_t *command, void *main)
     return NGX_CONF_ERROR;
   if (zone->has_others)
     return params_bad(cf, &words[1], "one dmclock_default for each zone");
-  if (read_rates(cf, 2, default_params, &words[1], &setting, &zone->others) != NGX_CONF_OK)
+  if (read_rates(cf, 2, default_params, zone, &words[1], &setting, &zone->others) != NGX_CONF_OK)
     return NGX_CONF_ERROR;
   if (setting.is_shared && setting.most)
     return params_bad(cf, &words[1], "shared, or clients=N");
   zone->has_others = true;
   zone->is_shared = setting.is_shared;
+  zone->others_queue = setting.queue;
   if (setting.most)
     zone->config.most_others = setting.most;
   return NGX_CONF_OK;

@@ -532,6 +532,25 @@ static void full(void)
   zone_close(zone);
 }
 
+/* A client may have a bound of its own. */
+static void full_of_client(void)
+{
+  struct zone *zone = opened(&one_at_once);
+  struct client *gold = client(zone, "gold", 0, 1, 0), *silver = client(zone, "silver", 0, 1, 0);
+  struct request requests[4];
+  silver->most_waiting = 1;
+  is_granted(zone, &requests[0], gold, 1);
+  is_granted(zone, &requests[1], silver, 1);
+  CHECK(refusal(zone, silver, 1) == REFUSED_CLIENT_FULL && !is_granted(zone, &requests[2], gold, 1));
+  zone_leave(zone, &requests[1], 2);
+  CHECK(!is_granted(zone, &requests[3], silver, 2) && refusal(zone, silver, 2) == REFUSED_CLIENT_FULL);
+  for (int i = 0; i < 4; i++)
+    zone_leave(zone, &requests[i], 3);
+  for (int i = 0; i < 4; i++)
+    zone_leave(zone, &requests[i], 4);
+  zone_close(zone);
+}
+
 /* Waits that take too long end, the earliest first, and are cancelled. */
 static void expired(void)
 {
@@ -769,6 +788,123 @@ static void tenant_without_memory(void)
   tenants_close(tenants);
 }
 
+/* ---- clients that give up, in a time of their own */
+
+enum { NODES = 3, ASKED = 600, LIMIT = 300, SECONDS = 5 };
+
+/* A request of a tenant, whose client gives up after a second. */
+struct arrival {
+  struct request request;
+  struct try try;
+  unsigned node;
+  uint64_t came, served; /* and when the device is done with it, once it is granted */
+};
+
+/* A front and its nodes. */
+struct cluster {
+  struct zone nodes[NODES];
+  struct client *clients[NODES];
+  unsigned count;          /* of nodes */
+  struct tenants *tenants;
+  struct arrival arrivals[ASKED * SECONDS];
+  unsigned came, first;    /* how many came, and the first one that has no outcome yet */
+  unsigned responses;
+};
+
+static struct cluster *cluster_of(unsigned count, uint32_t most_waiting)
+{
+  static struct cluster cluster;
+  struct zone_config config = one_at_once;
+  config.depth = 4;
+  memset(&cluster, 0, sizeof cluster);
+  cluster.count = count;
+  cluster.tenants = front_of(count, 1, DMC_OTHERS);
+  for (unsigned node = 0; node < count; node++) {
+    CHECK(zone_open(&cluster.nodes[node], &config));
+    cluster.clients[node] = client(&cluster.nodes[node], "batch", 0, 1, LIMIT);
+    cluster.clients[node]->most_waiting = most_waiting;
+  }
+  return &cluster;
+}
+
+/* The device takes 4 milliseconds for each that is granted. */
+static void serve_granted(struct request *granted, uint64_t now)
+{
+  for (; granted; granted = granted->next)
+    ((struct arrival *)granted)->served = now + 4 * MILLISECOND;
+}
+
+static void end_arrival(struct cluster *cluster, struct arrival *arrival, enum outcome outcome, uint64_t now)
+{
+  tenants_end(cluster->tenants, &arrival->try, outcome);
+  serve_granted(zone_leave(&cluster->nodes[arrival->node], &arrival->request, now), now);
+}
+
+static void arrive(struct cluster *cluster, uint64_t now)
+{
+  struct arrival *arrival = &cluster->arrivals[cluster->came];
+  unsigned node = cluster->came++ % cluster->count;
+  struct request *woken;
+  *arrival = (struct arrival){.request.counting = DMC_OTHERS, .node = node, .came = now};
+  CHECK(tenants_begin(cluster->tenants, "batch", node, 1, &arrival->try));
+  if (zone_enter(&cluster->nodes[node], &arrival->request, cluster->clients[node], arrival->try.stamp, now, &woken) == REFUSED_NOT)
+    serve_granted(woken, now);
+  else
+    end_arrival(cluster, arrival, OUTCOME_RETURNED, now);
+}
+
+/* What happens to a request at a time. False if it has its outcome. */
+static bool is_under_way(struct cluster *cluster, struct arrival *arrival, uint64_t now)
+{
+  enum request_state state = arrival->request.state;
+  if (state == REQUEST_GRANTED && arrival->served <= now) {
+    cluster->responses++;
+    end_arrival(cluster, arrival, OUTCOME_PRIORITY, now);
+  } else if (state != REQUEST_NEW && state != REQUEST_ENDED && arrival->came + SECOND <= now)
+    end_arrival(cluster, arrival, OUTCOME_EXPIRED, now);
+  return arrival->request.state == REQUEST_WAITS || arrival->request.state == REQUEST_GRANTED;
+}
+
+static void pass_millisecond(struct cluster *cluster, uint64_t now)
+{
+  for (unsigned i = cluster->first; i < cluster->came; i++)
+    if (!is_under_way(cluster, &cluster->arrivals[i], now) && i == cluster->first)
+      cluster->first++;
+  while (cluster->came < now * ASKED / SECOND)
+    arrive(cluster, now);
+  for (unsigned node = 0; node < cluster->count; node++)
+    if (zone_next_turn(&cluster->nodes[node]) <= now)
+      serve_granted(zone_turn(&cluster->nodes[node], now), now);
+}
+
+/* How many responses there are in the last second, to clients that ask for twice their limit. */
+static unsigned last_responses(unsigned nodes, uint32_t most_waiting)
+{
+  struct cluster *cluster = cluster_of(nodes, most_waiting);
+  for (uint64_t now = 0; now < SECONDS * (uint64_t)SECOND; now += MILLISECOND) {
+    if (now == (SECONDS - 1) * (uint64_t)SECOND)
+      cluster->responses = 0;
+    pass_millisecond(cluster, now);
+  }
+  for (unsigned i = 0; i < cluster->came; i++)
+    if (is_under_way(cluster, &cluster->arrivals[i], SECONDS * (uint64_t)SECOND))
+      end_arrival(cluster, &cluster->arrivals[i], OUTCOME_EXPIRED, SECONDS * (uint64_t)SECOND);
+  for (unsigned node = 0; node < nodes; node++)
+    zone_close(&cluster->nodes[node]);
+  tenants_close(cluster->tenants);
+  return cluster->responses;
+}
+
+/* Clients that give up after a second have their limit in responses if few of their requests wait, at one node and over three; and if
+   many wait, none in time, or now more and now less. */
+static void impatient(void)
+{
+  unsigned at_one = last_responses(1, 20), at_three = last_responses(NODES, 20), of_many = last_responses(1, 10000);
+  CHECK(LIMIT - 3 <= at_one && at_one <= LIMIT + 3);
+  CHECK(LIMIT - 3 <= at_three && at_three <= LIMIT + 3);
+  CHECK(of_many < LIMIT / 10);
+}
+
 /* ---- the status */
 
 static void said(void)
@@ -823,6 +959,7 @@ int main(void)
   stamped();
   counted_costs();
   full();
+  full_of_client();
   expired();
   crowded();
   begins();
@@ -837,6 +974,7 @@ int main(void)
   lost();
   forgotten();
   tenant_without_memory();
+  impatient();
   said();
   if (failures == 0)
     printf("zones, tenants, stamps and status: ok\n");

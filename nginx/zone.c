@@ -412,6 +412,7 @@ struct client *zone_client(struct zone *zone, const char *name, const struct rat
   if (!client)
     return NULL;
   client->last_request = now;
+  client->most_waiting = zone->config.most_of_client;
   client->link = zone->last_client;
   *zone->last_client = client;
   zone->last_client = &client->next;
@@ -528,7 +529,7 @@ static enum refusal refusal_before(const struct zone *zone, const struct client 
   if (is_full(zone->waiting, zone->queued, config->most_queued))
     return REFUSED_FULL;
   uint32_t waiting = client->queued - client->given_up;
-  return is_full(waiting, client->queued, config->most_of_client) ? REFUSED_CLIENT_FULL : REFUSED_NOT;
+  return is_full(waiting, client->queued, client->most_waiting) ? REFUSED_CLIENT_FULL : REFUSED_NOT;
 }
 
 static enum refusal submit(struct zone *zone, struct request *request, struct client *client, struct dmc_stamp stamp, uint64_t now)

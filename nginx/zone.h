@@ -34,6 +34,7 @@ struct client {
   char *name;
   struct rates rates;
   uint32_t id;
+  uint32_t most_waiting;   /* how many of its requests wait at most: the config's, if the caller sets no other number */
   bool is_kept;            /* it is never forgotten */
   uint32_t queued;         /* requests in the queue */
   uint32_t given_up;       /* those of them that have left or expired, and are to be cancelled */

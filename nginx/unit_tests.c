@@ -448,6 +448,8 @@ static void limited_again(void)
   CHECK(zone_enter(zone, &request, batch, one, start + tenth, &woken) == REFUSED_NOT && woken == &request);
   CHECK(zone_limit_after(zone, batch, one, start + tenth) == tenth);
   zone_leave(zone, &request, start + tenth);
+  zone->config.threshold = 100 * (uint64_t)SECOND;
+  CHECK(zone_limit_after(zone, batch, one, start + tenth) == 0);
   batch->limit_tag = NEVER;
   CHECK(zone_limit_after(zone, batch, one, start + tenth) == 0);
   zone_close(zone);

@@ -19,12 +19,12 @@ function* stretches(ones, others, least) {
 const sum = rates => rates.reduce((sofar, rate) => sofar + rate, 0);
 
 // The stretch, a second or longer, in which a client is granted the most more, or less, in the one run than in the other:
-// { client, from, until, rate, other }, in seconds and grants a second. Undefined if there is none.
-function differenceOf({ capacity, servers, seconds }, result, other) {
+// { client, from, until, rate, other }, in seconds and units a second. Undefined if there is none.
+function differenceOf({ capacity, servers, seconds, clients }, result, other) {
   const { width } = result;
-  const least = Math.max(DIFFERS * capacity * servers, FEW / width);
   let found, most = 0;
   result.clients.forEach((its, client) => {
+    const least = Math.max(DIFFERS * capacity * servers, FEW * clients[client].cost / width);
     const [ones, others] = [its, other.clients[client]].map(grantedOf);
     for (const [from, until] of stretches(ones, others, least)) {
       const [one, another] = [ones, others].map(rates => sum(rates.slice(from, until)));

@@ -179,7 +179,7 @@ for (const [name, scene] of PRESETS) {
 byId("add").addEventListener("click", () => {
   const seconds = byKey(byId("server"), "seconds").value;
   const name = `client ${rows().length + 1}`;
-  addRow({ name, reservation: "", weight: "1", limit: "", demand: "300", from: "0", until: seconds, window: "64" });
+  addRow({ name, reservation: "", weight: "1", limit: "", demand: "300", from: "0", until: seconds, window: "64", cost: "1" });
   byKey(rows().at(-1), "name").select();
   changed();
 });

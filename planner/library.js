@@ -10,7 +10,6 @@ const COUNTING = { all: 0, others: 1 };
 const RESERVATION = 0; // DMC_RESERVATION
 const GRANTED = 0; // DMC_GRANTED
 const FUTURE = 1; // DMC_FUTURE
-const COST = 1; // of each request
 const TEXTS = new Map([
   [1, "out of memory"], [2, "none held"], [3, "held already"], [10, "bad moment"], [11, "bad params"], [12, "bad rate"],
   [13, "bad config"], [14, "bad phase"], [15, "limit"], [16, "bad cost"], [20, "known"], [21, "unknown"],
@@ -20,9 +19,9 @@ const TEXTS = new Map([
 // Of the structs: their bytes, and where their fields are, in words of 32 bits.
 const HANDLE = { bytes: 16 };
 const CONFIG = { bytes: 48, hz: 0, idleAge: 2, eraseAge: 4, tagKind: 8, atLimit: 9, shares: 10 };
-const STAMP = { bytes: 12, delta: 0, rho: 1 };
+const STAMP = { bytes: 12, delta: 0, rho: 1, cost: 2 };
 const TAGS = { bytes: 80 };
-const PULLED = { bytes: 40, kind: 0, client: 1, token: 2, phase: 3, beyond: 5, dueLow: 6, dueHigh: 8 };
+const PULLED = { bytes: 40, kind: 0, client: 1, token: 2, phase: 3, cost: 4, beyond: 5, dueLow: 6, dueHigh: 8 };
 
 // A call's code that is not DMC_OK.
 class Refused extends Error {}
@@ -95,7 +94,7 @@ class Library {
   }
 
   add(queue, client, token, stamp, time) {
-    this.must(this.calls.dmc_queue_add(queue, client, token, stamp.delta, stamp.rho, COST, BigInt(time), this.tags));
+    this.must(this.calls.dmc_queue_add(queue, client, token, stamp.delta, stamp.rho, stamp.cost, BigInt(time), this.tags));
   }
 
   // What is granted, or the time at which a request is due: infinite where none is, or past all times of the page.
@@ -103,8 +102,10 @@ class Library {
     this.must(this.calls.dmc_queue_pull(queue, BigInt(time), this.pulled));
     const read = field => this.word(this.pulled, field);
     const kind = read(PULLED.kind);
-    if (kind === GRANTED)
-      return { client: read(PULLED.client), token: read(PULLED.token), phase: read(PULLED.phase), beyond: (read(PULLED.beyond) & 1) === 1 };
+    if (kind === GRANTED) {
+      return { client: read(PULLED.client), token: read(PULLED.token), phase: read(PULLED.phase), cost: read(PULLED.cost),
+        beyond: (read(PULLED.beyond) & 1) === 1 };
+    }
     const at = Number(this.pulled) / 8;
     const due = this.longs[at + PULLED.dueLow / 2] + (this.longs[at + PULLED.dueHigh / 2] << 64n);
     return { due: kind === FUTURE && due <= Number.MAX_SAFE_INTEGER ? Number(due) : Infinity };
@@ -120,12 +121,13 @@ class Library {
     return tracker;
   }
 
-  stamp(tracker, server) {
-    this.must(this.calls.dmc_tracker_stamp(tracker, server, COST, this.stamped));
-    return { delta: this.word(this.stamped, STAMP.delta), rho: this.word(this.stamped, STAMP.rho) };
+  stamp(tracker, server, cost) {
+    this.must(this.calls.dmc_tracker_stamp(tracker, server, cost, this.stamped));
+    const read = field => this.word(this.stamped, field);
+    return { delta: read(STAMP.delta), rho: read(STAMP.rho), cost: read(STAMP.cost) };
   }
 
-  respond(tracker, server, phase) {
-    this.must(this.calls.dmc_tracker_respond(tracker, server, phase, COST));
+  respond(tracker, server, phase, cost) {
+    this.must(this.calls.dmc_tracker_respond(tracker, server, phase, cost));
   }
 }

@@ -89,11 +89,12 @@ const keyOf = clients => make("ul", { class: "key", "aria-hidden": "true" },
 function drawAll({ settings, result }) {
   const { capacity, servers, seconds, clients } = settings;
   const most = capacity * servers;
+  const counted = { requests: "Requests", units: "Units" }[countedOf(settings)];
   const figure = byId("all");
   figure.replaceChildren(keyOf(clients));
   const svg = stacked(settings, result, figure.clientWidth - 32, topOf(settings, result));
-  const used = result.granted / (most * seconds);
-  const caption = `Requests a second. Of the ${plain(most)} a second that the servers have, ${percent(used)} are granted.`;
+  const used = result.units / (most * seconds);
+  const caption = `${counted} a second. Of the ${plain(most)} a second that the servers have, ${percent(used)} are granted.`;
   figure.append(svg, make("figcaption", {}, caption));
 }
 
@@ -112,7 +113,10 @@ function drawCompared({ settings, result, other }) {
   pair.replaceChildren(...SHARES_WORDS.map(plot));
 }
 
-function sentenceOf({ reservation, weight, limit, demand }, rates, its) {
+// A rate of units in requests of a cost.
+const requestsOf = (rate, cost) => `${plain(rate / cost)} requests`;
+
+function sentenceOf({ reservation, weight, limit, demand, cost }, rates, its) {
   const said = [];
   if (reservation) {
     said.push(`${plain(its.rate * its.share)} for its reservation of ${plain(rates.reservation)}`);
@@ -120,7 +124,8 @@ function sentenceOf({ reservation, weight, limit, demand }, rates, its) {
   } else said.push(`all by its weight of ${plain(weight)}`);
   if (limit) said.push(`limit ${plain(rates.limit)}`);
   if (its.beyond) said.push(`${plain(its.beyond)} grants beyond it`);
-  return `${plain(its.rate)} a second of the ${plain(demand)} it asks for: ${said.join(", ")}.`;
+  const requests = cost > 1 ? `, in ${requestsOf(its.rate, cost)} of ${plain(cost)} each` : "";
+  return `${plain(its.rate)} a second of the ${plain(demand)} it asks for${requests}: ${said.join(", ")}.`;
 }
 
 function drawClient({ settings, rates, result }, id, width, top) {
@@ -155,10 +160,11 @@ function drawEach(run) {
 }
 
 function drawTable({ settings, result }) {
-  byId("table").replaceChildren(...settings.clients.map(({ name }, id) => {
+  byId("table").replaceChildren(...settings.clients.map(({ name, cost }, id) => {
     const its = result.clients[id];
     const waits = its.granted ? [its.meanWait, its.lateWait, its.longestWait].map(duration) : ["–", "–", "–"];
-    const cells = [plain(its.rate), percent(its.share), ...waits, plain(its.turnedAway)];
+    const requests = cost > 1 ? ` (${requestsOf(its.rate, cost)})` : "";
+    const cells = [plain(its.rate) + requests, percent(its.share), ...waits, plain(its.turnedAway)];
     return make("tr", {}, make("th", { scope: "row" }, chip(id), name), ...cells.map(text => make("td", {}, text)),
       make("td", its.met.is === false ? { class: "unmet" } : {}, its.met.why));
   }));

@@ -1,10 +1,32 @@
 "use strict";
 
-// What a run's grants add up to: rates over time, waits, and whether each reservation was met.
+// What a run's grants add up to: rates over time, in units of cost, waits, and whether each reservation was met.
 
 const WIDTHS = [0.1, 0.2, 0.5, 1, 2, 5]; // of a column of the pictures, in seconds
 const MOST_COLUMNS = 150;
 const LONG = 2; // seconds without a grant
+// Requests that cost more than 1 may be few. A column of a picture, and what a reservation is compared with, have room for this many of
+// them, so that one more or less is 5%.
+const MANY = 20;
+
+// The width of a column.
+function widthOf({ capacity, servers, seconds, clients }) {
+  const greatest = Math.max(...clients.map(({ cost }) => cost));
+  const least = greatest > 1 ? MANY * greatest / (capacity * servers) : 0;
+  return WIDTHS.find(width => width >= least && seconds / width <= MOST_COLUMNS) ?? WIDTHS.at(-1);
+}
+
+// How many of these seconds have less than is due in each, by more than 5% and more than a request.
+function shortSeconds(bySecond, due, cost) {
+  const span = cost > 1 ? Math.ceil(MANY * cost / due) : 1;
+  let short = 0;
+  for (let from = 0; from < bySecond.length; from += span) {
+    const granted = bySecond.slice(from, from + span);
+    const wanted = due * granted.length;
+    if (granted.reduce((sum, units) => sum + units, 0) < wanted - Math.max(cost, 0.05 * wanted)) short += granted.length;
+  }
+  return short;
+}
 
 class Results {
   // A listing has a line for each grant: tick, server, client, token, phase, beyond, wait.
@@ -12,7 +34,7 @@ class Results {
     this.settings = settings;
     this.rates = rates;
     this.lines = listing ? [] : undefined;
-    this.width = WIDTHS.find(width => settings.seconds / width <= MOST_COLUMNS);
+    this.width = widthOf(settings);
     const columns = Math.ceil(settings.seconds / this.width);
     this.clients = settings.clients.map(() => ({
       byReservation: new Array(columns).fill(0), byWeight: new Array(columns).fill(0),
@@ -47,9 +69,9 @@ class Results {
   }
 
   longWait(id) {
-    const { capacity, servers } = this.settings;
+    const { capacity, servers, clients } = this.settings;
     const weights = this.rates.reduce((sum, { weight }) => sum + weight, 0);
-    return Math.max(LONG, 3 * weights / (this.rates[id].weight * capacity * servers));
+    return Math.max(LONG, 3 * clients[id].cost * weights / (this.rates[id].weight * capacity * servers));
   }
 
   granted(time, server, grant, wait) {
@@ -57,10 +79,10 @@ class Results {
     this.endWait(grant.client, time);
     const column = Math.floor(time / (this.width * HZ));
     if (grant.phase === RESERVATION) {
-      to.byReservation[column]++;
+      to.byReservation[column] += grant.cost;
       to.reserved++;
     } else {
-      to.byWeight[column]++;
+      to.byWeight[column] += grant.cost;
       this.weighted++;
     }
     to.waits.push(wait);
@@ -68,7 +90,7 @@ class Results {
     this.beginWait(to, time);
     to.last = time;
     if (grant.beyond) to.beyond++;
-    to.bySecond[Math.floor(time / HZ)]++;
+    to.bySecond[Math.floor(time / HZ)] += grant.cost;
     this.lines?.push([time, server, grant.client, grant.token, grant.phase, Number(grant.beyond), wait].join(" "));
   }
 
@@ -81,6 +103,7 @@ class Results {
     return {
       width: this.width,
       granted: this.clients.reduce((sum, { waits }) => sum + waits.length, 0),
+      units: this.clients.reduce((sum, { waits }, id) => sum + waits.length * this.settings.clients[id].cost, 0),
       clients: this.clients.map((_, id) => this.client(id)),
       lines: this.lines,
     };
@@ -88,14 +111,14 @@ class Results {
 
   client(id) {
     const { waits, reserved, last, turnedAway, beyond, byReservation, byWeight } = this.clients[id];
-    const { from, until } = this.settings.clients[id];
+    const { from, until, cost } = this.settings.clients[id];
     const { seconds } = this.settings;
     const sorted = Float64Array.from(waits).sort();
     const busy = Math.max(Math.min(until, seconds), last / HZ) - from;
-    const perSecond = counts => counts.map((count, k) => count / Math.min(this.width, seconds - k * this.width));
+    const perSecond = units => units.map((sum, k) => sum / Math.min(this.width, seconds - k * this.width));
     return {
       granted: waits.length, turnedAway, beyond,
-      rate: waits.length / busy,
+      rate: waits.length * cost / busy,
       share: waits.length && reserved / waits.length,
       meanWait: waits.length && waits.reduce((sum, wait) => sum + wait, 0) / waits.length / HZ,
       lateWait: waits.length && sorted[Math.ceil(0.99 * waits.length) - 1] / HZ,
@@ -110,11 +133,10 @@ class Results {
   met(id) {
     const { reservation } = this.rates[id];
     if (!reservation) return { is: undefined, why: "none" };
-    const { from, until, demand } = this.settings.clients[id];
-    const { bySecond } = this.clients[id];
-    const asked = bySecond.slice(from, until);
+    const { from, until, demand, cost } = this.settings.clients[id];
+    const asked = this.clients[id].bySecond.slice(from, until);
     const due = Math.min(reservation, demand);
-    const short = asked.filter(granted => granted < due - Math.max(1, 0.05 * due)).length;
+    const short = shortSeconds(asked, due, cost);
     if (!short) return { is: true, why: demand < reservation ? "yes, it asks for less" : "yes" };
     return { is: false, why: `no, in ${short} of ${asked.length} seconds${this.advice(id, due)}` };
   }
@@ -122,7 +144,7 @@ class Results {
   // Why a reservation is not met, and what would help.
   advice(id, due) {
     const { capacity, servers, depth } = this.settings;
-    const { from, until, window } = this.settings.clients[id];
+    const { from, until, window, cost } = this.settings.clients[id];
     const { waits, turnedAway } = this.clients[id];
     const text = number => number.toLocaleString("en");
     const most = this.mostReserved(from, until);
@@ -130,8 +152,8 @@ class Results {
       return `: ${text(most)} a second are reserved at once; lower them by ${text(most - capacity * servers)}`;
     if (!turnedAway || !waits.length) return "";
     // As many are under way as come while one is: at the rate that is due, and as long as one took.
-    const took = waits.reduce((sum, wait) => sum + wait, 0) / waits.length / HZ + depth / capacity;
-    return `: its window of ${text(window)} is too small; try ${text(Math.max(window + 1, Math.ceil(due * took)))}`;
+    const took = waits.reduce((sum, wait) => sum + wait, 0) / waits.length / HZ + depth * cost / capacity;
+    return `: its window of ${text(window)} is too small; try ${text(Math.max(window + 1, Math.ceil(due / cost * took)))}`;
   }
 
   // The most that clients who reserve it also ask for at one time of this span. It rises only where a client begins.

@@ -5,12 +5,13 @@
 
 const MOST_CLIENTS = 64;
 const MOST_REQUESTS = 5000000;
+const MOST_COST = 10000; // with it all ticks are below 2^53, so that numbers have them exactly
 const AT_LIMIT_WORDS = ["wait", "allow"];
 const COUNTING_WORDS = ["others", "all"];
 const SHARES_WORDS = ["virtual", "clock"];
 
 // The fields, in the order of the form and of the address. One with `none` may be left empty. One with `absent` may be missing in an
-// address, which then means this.
+// address, which then means this; of a client those at the end may be.
 const SERVER_FIELDS = [
   { key: "capacity", label: "Capacity", least: 1, most: 100000 },
   { key: "servers", label: "Servers", least: 1, most: 16 },
@@ -30,6 +31,7 @@ const CLIENT_FIELDS = [
   { key: "from", label: "From", least: 0, most: 599 },
   { key: "until", label: "Until", least: 1, most: 600 },
   { key: "window", label: "Window", least: 1, most: 10000 },
+  { key: "cost", label: "Cost", least: 1, most: MOST_COST, absent: "1" },
 ];
 
 const scene = (server, ...clients) => ({
@@ -38,27 +40,27 @@ const scene = (server, ...clients) => ({
 });
 const PRESETS = [
   ["Three tenants", scene([2000, 1, 60, "wait", "others", 4, 5, "virtual"],
-    ["database", 800, 2, "", 1000, 0, 60, 64],
-    ["website", "", 3, "", 1600, 15, 45, 64],
-    ["backup", 100, 1, 500, 1500, 0, 60, 64])],
+    ["database", 800, 2, "", 1000, 0, 60, 64, 1],
+    ["website", "", 3, "", 1600, 15, 45, 64, 1],
+    ["backup", 100, 1, 500, 1500, 0, 60, 64, 1])],
   ["Noisy neighbour", scene([1000, 1, 60, "wait", "others", 4, 5, "virtual"],
-    ["steady", 300, 1, "", 300, 0, 60, 32],
-    ["modest", "", 1, "", 250, 0, 60, 32],
-    ["noisy", "", 1, "", 4000, 20, 40, 1024])],
+    ["steady", 300, 1, "", 300, 0, 60, 32, 1],
+    ["modest", "", 1, "", 250, 0, 60, 32, 1],
+    ["noisy", "", 1, "", 4000, 20, 40, 1024, 1])],
   ["Backlog", scene([1000, 1, 60, "wait", "others", 4, 5, "virtual"],
-    ["interactive", 400, 4, "", 700, 0, 60, 32],
-    ["nightly batch", "", 1, 300, 20000, 10, 11, 8000])],
+    ["interactive", 400, 4, "", 700, 0, 60, 32, 1],
+    ["nightly batch", "", 1, 300, 20000, 10, 11, 8000, 1])],
   ["Too much reserved", scene([1000, 1, 60, "wait", "others", 4, 5, "virtual"],
-    ["first", 600, 1, "", 700, 0, 60, 64],
-    ["second", 600, 1, "", 700, 20, 60, 64],
-    ["third", "", 4, "", 500, 0, 60, 64])],
+    ["first", 600, 1, "", 700, 0, 60, 64, 1],
+    ["second", 600, 1, "", 700, 20, 60, 64, 1],
+    ["third", "", 4, "", 500, 0, 60, 64, 1])],
   ["Three servers", scene([600, 3, 60, "wait", "others", 4, 5, "virtual"],
-    ["database", 800, 2, "", 1000, 0, 60, 96],
-    ["website", "", 3, "", 1600, 15, 45, 96],
-    ["backup", 100, 1, 500, 1200, 0, 60, 96])],
+    ["database", 800, 2, "", 1000, 0, 60, 96, 1],
+    ["website", "", 3, "", 1600, 15, 45, 96, 1],
+    ["backup", 100, 1, 500, 1200, 0, 60, 96, 1])],
 ];
 
-// ---- the address: #capacity=2000&..&client=database,800,2,,1000,0,60,64
+// ---- the address: #capacity=2000&..&client=database,800,2,,1000,0,60,64,1
 
 function toAddress({ server, clients }) {
   const part = text => encodeURIComponent(text).replace(/%20/g, "+");
@@ -74,8 +76,8 @@ function fromAddress(address) {
       const [key, value, more] = pair.split("=");
       if (more !== undefined) return undefined;
       const parts = value.split(",").map(part => decodeURIComponent(part.replace(/\+/g, " ")));
-      if (key === "client" && parts.length === CLIENT_FIELDS.length)
-        found.clients.push(Object.fromEntries(CLIENT_FIELDS.map((field, k) => [field.key, parts[k]])));
+      if (key === "client" && parts.length <= CLIENT_FIELDS.length)
+        found.clients.push(Object.fromEntries(CLIENT_FIELDS.map((field, k) => [field.key, parts[k] ?? field.absent])));
       else if (SERVER_FIELDS.some(field => field.key === key) && parts.length === 1) [found.server[key]] = parts;
       else return undefined;
     }
@@ -83,7 +85,8 @@ function fromAddress(address) {
     return undefined;
   }
   for (const { key, absent } of SERVER_FIELDS) found.server[key] ??= absent;
-  return SERVER_FIELDS.every(({ key }) => found.server[key] !== undefined) ? found : undefined;
+  const isWhole = (fields, texts) => fields.every(({ key }) => texts[key] !== undefined);
+  return isWhole(SERVER_FIELDS, found.server) && found.clients.every(client => isWhole(CLIENT_FIELDS, client)) ? found : undefined;
 }
 
 // ---- what is wrong
@@ -121,23 +124,31 @@ function readScene({ server, clients }) {
 }
 
 function checkTogether({ seconds, clients }, faults) {
-  clients.forEach(({ name, from, until }, client) => {
+  const askedBy = ({ demand, from, until }) => demand * Math.max(0, Math.min(until, seconds) - from); // units
+  clients.forEach((its, client) => {
+    const { name, from, until, cost } = its;
     const text = `From of ${name} is less than the ${plain(seconds)} seconds of the run.`;
     if (from >= seconds) faults.push({ key: "from", client, text });
     else if (until <= from) faults.push({ key: "until", client, text: `Until of ${name} is more than its from.` });
+    else if (askedBy(its) < cost)
+      faults.push({ key: "cost", client, text: `Cost of ${name} is at most the ${plain(askedBy(its))} units that it asks for.` });
   });
-  const requests = clients.reduce((sum, { demand, from, until }) => sum + demand * Math.max(0, Math.min(until, seconds) - from), 0);
+  const requests = Math.ceil(clients.reduce((sum, its) => sum + askedBy(its) / its.cost, 0));
   const advice = `the page takes at most ${plain(MOST_REQUESTS)}. Take fewer seconds, or less demand.`;
   if (requests > MOST_REQUESTS) faults.push({ text: `The clients ask for ${plain(requests)} requests: ${advice}` });
 }
 
+// What rates count: units of cost, which are requests if each costs 1.
+const countedOf = ({ clients }) => (clients.some(({ cost }) => cost > 1) ? "units" : "requests");
+
 // What is right but may surprise, given what the rates became.
-function warningsOf({ capacity, servers, shares, clients }, rates) {
+function warningsOf(settings, rates) {
+  const { capacity, servers, shares, clients } = settings;
   const whole = capacity * servers;
   const weights = rates.reduce((sum, { weight }) => sum + weight, 0);
   const found = [];
   if (shares === "clock" && weights > whole)
-    found.push(`The weights sum to ${plain(weights)}, which is more than the ${plain(whole)} requests a second that are served: `
+    found.push(`The weights sum to ${plain(weights)}, which is more than the ${plain(whole)} ${countedOf(settings)} a second that are served: `
       + "by the clock, clients don't get shares by them. Take small numbers such as 1, 2 and 3, or virtual time.");
   clients.forEach(({ name }, id) => {
     const { reservation, limit } = rates[id];

@@ -22,9 +22,11 @@ class Client {
   constructor(library, settings, client, id) {
     this.tracker = library.newTracker(settings.servers, settings.counting);
     this.window = client.window;
-    this.spacing = Math.floor(HZ / client.demand);
+    this.cost = client.cost;
+    this.spacing = Math.floor(client.cost * HZ / client.demand);
     this.until = Math.min(client.until, settings.seconds) * HZ;
-    this.next = client.from * HZ + Math.floor(this.spacing * phaseOf(id) / PHASES); // when it wants to send
+    // When it wants to send. The product may be past 2^53, which numbers do not have exactly.
+    this.next = client.from * HZ + Number(BigInt(this.spacing) * BigInt(phaseOf(id)) / BigInt(PHASES));
     this.underWay = 0;
     this.sent = []; // when, by token
     this.skipIfOver();
@@ -39,7 +41,7 @@ class Server {
   constructor(library, settings, rates) {
     this.queue = library.newQueue(settings.idle * HZ, ERASE_AGE, settings.atLimit, settings.shares);
     rates.forEach((its, id) => library.register(this.queue, id, its));
-    this.service = Math.floor(settings.depth * HZ / settings.capacity);
+    this.capacity = settings.capacity;
     this.depth = settings.depth;
     this.grants = []; // the requests that it serves, in the order in which they are done
     this.pulls = NEVER; // when it pulls
@@ -47,6 +49,14 @@ class Server {
 
   hasRoom() {
     return this.grants.length < this.depth;
+  }
+
+  // Serves a grant from now on. Of those that are done at the same time the first one is done first.
+  serve(grant, time) {
+    const done = time + Math.floor(this.depth * grant.cost * HZ / this.capacity);
+    let place = this.grants.length;
+    while (place && this.grants[place - 1].done > done) place--;
+    this.grants.splice(place, 0, { ...grant, done });
   }
 
   // When something happens: a request is done, or it pulls.
@@ -63,8 +73,8 @@ function simulate(library, settings, rates, watch) {
   let second = HZ;
 
   const complete = (server, id, time) => {
-    const { client, phase } = server.grants.shift();
-    library.respond(clients[client].tracker, id, phase);
+    const { client, phase, cost } = server.grants.shift();
+    library.respond(clients[client].tracker, id, phase, cost);
     clients[client].underWay--;
     server.pulls = time;
   };
@@ -75,7 +85,7 @@ function simulate(library, settings, rates, watch) {
     const token = client.sent.push(time) - 1;
     const to = token % servers.length;
     const server = servers[to];
-    library.add(server.queue, id, token, library.stamp(client.tracker, to), time);
+    library.add(server.queue, id, token, library.stamp(client.tracker, to, client.cost), time);
     client.underWay++;
     if (server.hasRoom()) server.pulls = time;
     watch.sent(time, id);
@@ -86,7 +96,7 @@ function simulate(library, settings, rates, watch) {
       server.pulls = pulled.due;
       return;
     }
-    server.grants.push({ done: time + server.service, client: pulled.client, phase: pulled.phase });
+    server.serve(pulled, time);
     if (!server.hasRoom()) server.pulls = NEVER;
     watch.granted(time, id, pulled, time - clients[pulled.client].sent[pulled.token]);
   };

@@ -1,7 +1,7 @@
 /* The simulation of the page over libdmclock.a, by the rule of docs/PLANNER.md. It reads the settings as words, a line for the servers
  * and one for each client:
  *     capacity servers seconds wait|allow others|all depth idle virtual|clock
- *     reservation weight limit demand from until window
+ *     reservation weight limit demand from until window cost
  * with 0 for no reservation and no limit. It writes what each client's rates became, each grant (tick, server, client, token, phase,
  * beyond, wait), and how many requests of each client were turned away. */
 #include "dmclock.h"
@@ -22,19 +22,20 @@ _Static_assert(offsetof(struct dmc_config, idle_age) == 8 && offsetof(struct dmc
 _Static_assert(offsetof(struct dmc_config, threshold) == 24 && offsetof(struct dmc_config, tag_kind) == 32, "CONFIG");
 _Static_assert(offsetof(struct dmc_config, at_limit) == 36 && offsetof(struct dmc_config, shares) == 40, "CONFIG");
 _Static_assert(sizeof(struct dmc_stamp) == 12 && offsetof(struct dmc_stamp, rho) == 4, "STAMP");
+_Static_assert(offsetof(struct dmc_stamp, cost) == 8, "STAMP");
 _Static_assert(sizeof(struct dmc_tags) == 80, "TAGS");
 _Static_assert(sizeof(struct dmc_pulled) == 40, "PULLED");
 _Static_assert(offsetof(struct dmc_pulled, kind) == 0 && offsetof(struct dmc_pulled, client) == 4, "PULLED");
 _Static_assert(offsetof(struct dmc_pulled, token) == 8 && offsetof(struct dmc_pulled, phase) == 12, "PULLED");
-_Static_assert(offsetof(struct dmc_pulled, beyond) == 20 && offsetof(struct dmc_pulled, due_low) == 24, "PULLED");
-_Static_assert(offsetof(struct dmc_pulled, due_high) == 32, "PULLED");
+_Static_assert(offsetof(struct dmc_pulled, cost) == 16 && offsetof(struct dmc_pulled, beyond) == 20, "PULLED");
+_Static_assert(offsetof(struct dmc_pulled, due_low) == 24 && offsetof(struct dmc_pulled, due_high) == 32, "PULLED");
 _Static_assert(DMC_FINE_HZ == 735134400 && DMC_TICK == 0 && DMC_WAIT == 0 && DMC_ALLOW == 1, "numbers");
 _Static_assert(DMC_CLOCK == 0 && DMC_VIRTUAL == 1, "numbers");
 _Static_assert(DMC_ALL == 0 && DMC_OTHERS == 1 && DMC_RESERVATION == 0 && DMC_GRANTED == 0 && DMC_FUTURE == 1, "numbers");
 
 struct client {
   struct dmc_tracker tracker;
-  uint32_t reservation, weight, limit;
+  uint32_t reservation, weight, limit, cost;
   uint64_t spacing, next, until, window, under_way, turned_away;
   uint64_t *sent_at; /* by token */
   uint32_t sent, room;
@@ -44,12 +45,12 @@ struct client {
 
 struct grant {
   uint64_t done;
-  uint32_t client, phase;
+  uint32_t client, phase, cost;
 };
 
 struct server {
   struct dmc_queue queue;
-  uint64_t pulls;
+  uint64_t capacity, pulls;
   struct grant grants[MOST_DEPTH]; /* a ring, in the order in which they are done */
   uint32_t first, serves, depth;
 };
@@ -76,8 +77,8 @@ static uint64_t earlier(uint64_t one, uint64_t other) { return one < other ? one
 static bool read_client(struct client *it, uint64_t number, uint64_t seconds, uint32_t servers, uint32_t counting)
 {
   uint64_t demand, from, until;
-  if (scanf("%" SCNu32 "%" SCNu32 "%" SCNu32 "%" SCNu64 "%" SCNu64 "%" SCNu64 "%" SCNu64, &it->reservation, &it->weight, &it->limit,
-            &demand, &from, &until, &it->window) != 7)
+  if (scanf("%" SCNu32 "%" SCNu32 "%" SCNu32 "%" SCNu64 "%" SCNu64 "%" SCNu64 "%" SCNu64 "%" SCNu32, &it->reservation, &it->weight,
+            &it->limit, &demand, &from, &until, &it->window, &it->cost) != 8)
     return false;
   if (it->reservation)
     must(dmc_rate_at_least(HZ, it->reservation, &it->reservation));
@@ -86,7 +87,7 @@ static bool read_client(struct client *it, uint64_t number, uint64_t seconds, ui
     must(dmc_rate_at_most(HZ, it->limit, &it->limit));
   printf("rates %" PRIu32 " %" PRIu32 " %" PRIu32 "\n", it->reservation, it->weight, it->limit);
   must(dmc_tracker_new(&it->tracker, servers, UINT64_C(1) << 62, counting));
-  it->spacing = HZ / demand;
+  it->spacing = it->cost * HZ / demand;
   it->until = earlier(until, seconds) * HZ;
   uint64_t first = from * HZ + it->spacing * ((number + 1) * 40503 % 65536) / 65536;
   it->next = first < it->until ? first : NEVER;
@@ -107,31 +108,42 @@ static void send(struct client *it, uint32_t id, struct server *servers, uint32_
   if (token == it->room)
     it->sent_at = grown(it->sent_at, it->room = 2 * it->room + 1024, sizeof *it->sent_at);
   it->sent_at[token] = now;
-  must(dmc_tracker_stamp(&it->tracker, to, 1, &stamp));
+  must(dmc_tracker_stamp(&it->tracker, to, it->cost, &stamp));
   must(dmc_queue_add(&servers[to].queue, id, token, stamp.delta, stamp.rho, stamp.cost, now, &tags));
   it->under_way++;
   if (servers[to].serves < servers[to].depth)
     servers[to].pulls = now;
 }
 
+static struct grant *grant_at(struct server *it, uint32_t place) { return &it->grants[(it->first + place) % MOST_DEPTH]; }
+
+/* Serves a grant. Of those that are done at the same time the first one is done first. */
+static void serve(struct server *it, struct grant grant)
+{
+  uint32_t place = it->serves++;
+  for (; place > 0 && grant_at(it, place - 1)->done > grant.done; place--)
+    *grant_at(it, place) = *grant_at(it, place - 1);
+  *grant_at(it, place) = grant;
+}
+
 static void complete(struct server *it, uint32_t id, struct client *clients, uint64_t now)
 {
-  const struct grant *grant = &it->grants[it->first];
+  const struct grant *grant = grant_at(it, 0);
   struct client *whose = &clients[grant->client];
-  must(dmc_tracker_respond(&whose->tracker, id, grant->phase, 1));
+  must(dmc_tracker_respond(&whose->tracker, id, grant->phase, grant->cost));
   whose->under_way--;
   it->first = (it->first + 1) % MOST_DEPTH;
   it->serves--;
   it->pulls = now;
 }
 
-static void pull(struct server *it, uint32_t id, const struct client *clients, uint64_t service, uint64_t now)
+static void pull(struct server *it, uint32_t id, const struct client *clients, uint64_t now)
 {
   struct dmc_pulled pulled;
   must(dmc_queue_pull(&it->queue, now, &pulled));
   if (pulled.kind == DMC_GRANTED) {
-    it->grants[(it->first + it->serves) % MOST_DEPTH] = (struct grant){now + service, pulled.client, pulled.phase};
-    if (++it->serves == it->depth)
+    serve(it, (struct grant){now + HZ * it->depth * pulled.cost / it->capacity, pulled.client, pulled.phase, pulled.cost});
+    if (it->serves == it->depth)
       it->pulls = NEVER;
     printf("grant %" PRIu64 " %" PRIu32 " %" PRIu32 " %" PRIu32 " %" PRIu32 " %d %" PRIu64 "\n", now, id, pulled.client, pulled.token,
            pulled.phase, pulled.beyond, now - clients[pulled.client].sent_at[pulled.token]);
@@ -159,6 +171,7 @@ int main(void)
   config.shares = strcmp(shares, "clock") ? DMC_VIRTUAL : DMC_CLOCK;
   for (uint32_t s = 0; s < servers; s++) {
     list[s].pulls = NEVER;
+    list[s].capacity = capacity;
     list[s].depth = depth;
     must(dmc_queue_new(&list[s].queue, &config));
     for (uint32_t i = 0; i < clients; i++)
@@ -169,11 +182,11 @@ int main(void)
     for (uint32_t i = 0; i < clients; i++)
       now = earlier(now, all[i].next);
     for (uint32_t s = 0; s < servers; s++)
-      now = earlier(now, earlier(list[s].pulls, list[s].serves ? list[s].grants[list[s].first].done : NEVER));
+      now = earlier(now, earlier(list[s].pulls, list[s].serves ? grant_at(&list[s], 0)->done : NEVER));
     if (now >= seconds * HZ)
       break;
     for (uint32_t s = 0; s < servers; s++)
-      while (list[s].serves && list[s].grants[list[s].first].done == now)
+      while (list[s].serves && grant_at(&list[s], 0)->done == now)
         complete(&list[s], s, all, now);
     if (now == second * HZ) {
       uint32_t idled, erased;
@@ -186,7 +199,7 @@ int main(void)
         send(&all[i], i, list, servers, now);
     for (uint32_t s = 0; s < servers; s++)
       while (list[s].serves < list[s].depth && list[s].pulls == now)
-        pull(&list[s], s, all, depth * HZ / capacity, now);
+        pull(&list[s], s, all, now);
   }
   for (uint32_t i = 0; i < clients; i++)
     printf("turned away %" PRIu64 "\n", all[i].turned_away);

@@ -58,6 +58,10 @@ const PRESETS = [
     ["database", 800, 2, "", 1000, 0, 60, 96, 1],
     ["website", "", 3, "", 1600, 15, 45, 96, 1],
     ["backup", 100, 1, 500, 1200, 0, 60, 96, 1])],
+  ["Large requests", scene([8000, 1, 60, "wait", "others", 4, 5, "virtual"],
+    ["database", 1000, 2, "", 1500, 0, 60, 64, 1],
+    ["website", "", 2, "", 6000, 15, 45, 64, 4],
+    ["backup", "", 1, "", 20000, 0, 60, 16, 64])],
 ];
 
 // ---- the address: #capacity=2000&..&client=database,800,2,,1000,0,60,64,1

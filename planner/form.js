@@ -133,7 +133,7 @@ function run() {
       byId("results").hidden = false;
       draw(shown);
       list("warnings", [...warnings, ...waitsOf(settings, result)]);
-      byId("nbdkit").textContent = nbdkitSettings(settings);
+      for (const shows of document.querySelectorAll("pre")) shows.textContent = COPIES[shows.id].textOf(shown);
       const took = duration((performance.now() - began) / 1000);
       say(`${plain(settings.seconds)} seconds with ${plain(result.granted)} grants, simulated in ${took}.`);
     }
@@ -183,11 +183,14 @@ byId("add").addEventListener("click", () => {
   byKey(rows().at(-1), "name").select();
   changed();
 });
-byId("copy").addEventListener("click", async () => {
-  getSelection().selectAllChildren(byId("nbdkit"));
-  await navigator.clipboard.writeText(byId("nbdkit").textContent);
-  say("The nbdkit settings are copied.");
-});
+for (const button of document.querySelectorAll("[data-copies]")) {
+  const { copies } = button.dataset;
+  button.addEventListener("click", async () => {
+    getSelection().selectAllChildren(byId(copies));
+    await navigator.clipboard.writeText(COPIES[copies].textOf(shown));
+    say(`${COPIES[copies].what} are copied.`);
+  });
+}
 byId("form").addEventListener("input", changed);
 byId("form").addEventListener("submit", event => event.preventDefault());
 addEventListener("hashchange", open);

@@ -168,21 +168,3 @@ function waitsOf({ shares, clients }, result) {
     ? [`For ${plain(starved.seconds)} s nothing was granted to ${clients[id].name}, which waited, while ${plain(starved.others)} `
       + `requests of others were granted by weight. ${advice}`] : []);
 }
-
-// ---- nbdkit
-
-const MOST_NBDKIT_WEIGHT = 1000;
-
-// The settings as the nbdkit filter takes them, a line each. What it refuses is a comment that says so.
-function nbdkitSettings({ capacity, servers, atLimit, depth, idle, shares, clients }) {
-  const lines = [`dmclock-depth=${depth}`, `dmclock-capacity=${capacity}`, `dmclock-at-limit=${atLimit}`, `dmclock-shares=${shares}`,
-    `dmclock-idle=${idle}`];
-  if (servers > 1) lines.unshift(`# for each of the ${servers} servers; the filter knows of no other server`);
-  if (idle > 900) lines.push(`dmclock-erase=${idle}`);
-  for (const { name, reservation, weight, limit } of clients) {
-    if (weight > MOST_NBDKIT_WEIGHT) lines.push(`# the filter takes weights up to ${MOST_NBDKIT_WEIGHT}`);
-    if (limit && reservation > limit) lines.push("# the filter takes no reservation above the limit");
-    lines.push(`dmclock-client=${name}:${reservation || "-"}:${weight}:${limit || "-"}`);
-  }
-  return lines.join("\n") + "\n";
-}

@@ -3,6 +3,9 @@
 // What the page has to copy: its settings for the nbdkit filter and for the module of nginx, where a comment says what these refuse.
 
 const MOST_SERVED_WEIGHT = 1000;
+const UNIT = 4; // KiB: what a unit of cost is taken as. The page knows no bytes, so a comment says that it may be another
+
+const hasCosts = ({ clients }) => clients.some(({ cost }) => cost > 1);
 
 // What the filter or nginx refuses of a client.
 function refusedOf(who, clients, id) {
@@ -23,8 +26,13 @@ function nbdkitSettings(settings) {
     `dmclock-idle=${idle}`];
   if (servers > 1) lines.unshift(`# for each of the ${servers} servers; the filter knows of no other server`);
   if (idle > 900) lines.push(`dmclock-erase=${idle}`);
-  clients.forEach(({ name, reservation, weight, limit }, id) => {
+  if (hasCosts(settings)) {
+    lines.push(`# a unit is ${UNIT} KiB here, and may be another: a request costs 1 for each that it begins`);
+    lines.push(`dmclock-unit=${UNIT}KiB`);
+  }
+  clients.forEach(({ name, reservation, weight, limit, cost }, id) => {
     lines.push(...refusedOf("the filter", clients, id));
+    if (cost > 1) lines.push(`# requests of ${plain(cost * UNIT)} KiB cost ${plain(cost)}`);
     lines.push(`dmclock-client=${name}:${reservation || "-"}:${weight}:${limit || "-"}`);
   });
   return lines.join("\n") + "\n";
@@ -62,13 +70,18 @@ function nginxSettings(settings) {
   const lines = [nginxZone(settings)];
   if (servers > 1) {
     lines.unshift(`# the same at each of the ${servers} nodes; their front has`, `# dmclock_tracker cluster $tenant ${counting};`,
-      "# and in the upstream dmclock_track cluster;");
+      `# and in the upstream dmclock_track cluster;${hasCosts(settings) ? " and dmclock_cost as here" : ""}`);
+  }
+  if (hasCosts(settings)) {
+    lines.push(`# a unit is ${UNIT} KiB here, and may be another: an upload costs 1 for each that it begins, a download 1`);
+    lines.push(`dmclock_cost $content_length unit=${UNIT}k;`);
   }
   clients.forEach((client, id) => {
-    const { name } = client;
+    const { name, cost } = client;
     lines.push(...refusedOf("nginx", clients, id));
     if (new TextEncoder().encode(name).length > MOST_NGINX_NAME || name === NGINX_OWN_NAME)
       lines.push(`# nginx takes a name of at most ${MOST_NGINX_NAME} bytes, and not ${NGINX_OWN_NAME}`);
+    if (cost > 1) lines.push(`# uploads of ${plain(cost * UNIT)} KiB cost ${plain(cost)}`);
     lines.push(nginxClient(client));
   });
   return lines.join("\n") + "\n";

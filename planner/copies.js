@@ -1,6 +1,7 @@
 "use strict";
 
-// What the page has to copy: its settings for the nbdkit filter and for the module of nginx, where a comment says what these refuse.
+// What the page has to copy: its settings for the nbdkit filter and for the module of nginx, where a comment says what these refuse, and
+// its table as CSV.
 
 const MOST_SERVED_WEIGHT = 1000;
 const UNIT = 4; // KiB: what a unit of cost is taken as. The page knows no bytes, so a comment says that it may be another
@@ -87,9 +88,30 @@ function nginxSettings(settings) {
   return lines.join("\n") + "\n";
 }
 
+// ---- the table
+
+const CSV_HEADS = ["client", "units a second", "requests a second", "part for its reservation", "mean wait in seconds",
+  "99th percentile in seconds", "longest wait in seconds", "turned away", "reservation met"];
+
+// A text that a spreadsheet would take as a formula gets an apostrophe, since the names in an address are somebody else's.
+function csvCell(value) {
+  const text = typeof value === "string" && /^[=+@\t-]/.test(value) ? `'${value}` : String(value);
+  return /[",\r\n]/.test(text) ? `"${text.replaceAll('"', '""')}"` : text;
+}
+
+function tableCsv({ settings, result }) {
+  const rows = result.clients.map((its, id) => {
+    const { name, cost } = settings.clients[id];
+    const waits = its.granted ? [its.meanWait, its.lateWait, its.longestWait] : ["", "", ""];
+    return [name, its.rate, its.rate / cost, its.share, ...waits, its.turnedAway, its.met.why];
+  });
+  return [CSV_HEADS, ...rows].map(row => row.map(csvCell).join(",") + "\r\n").join("");
+}
+
 // ---- what may be copied, by the id of the element that shows it
 
 const COPIES = {
   nbdkit: { what: "The nbdkit settings", textOf: ({ settings }) => nbdkitSettings(settings) },
   nginx: { what: "The nginx settings", textOf: ({ settings }) => nginxSettings(settings) },
+  table: { what: "The numbers", textOf: tableCsv },
 };

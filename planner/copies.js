@@ -54,7 +54,7 @@ function nginxZone({ atLimit, depth, idle, shares, clients }) {
   const windows = clients.map(({ window }) => window);
   const queue = Math.max(NGINX_QUEUE, sum(windows));
   const most = Math.max(...windows);
-  const words = ["dmclock_zone store $http_x_tenant", `depth=${depth}`, `at_limit=${atLimit}`, `shares=${shares}`, `idle=${idle}s`];
+  const words = [`dmclock_zone store $http_x_tenant depth=${depth}\n   `, `at_limit=${atLimit}`, `shares=${shares}`, `idle=${idle}s`];
   if (queue > NGINX_QUEUE) words.push(`queue=${queue}`);
   if (most > Math.floor(queue / NGINX_PARTS)) words.push(`client_queue=${most}`);
   return words.join(" ") + ";";
@@ -65,7 +65,7 @@ function nginxClient({ name, reservation, weight, limit }) {
   return ["dmclock_client store", nginxWord(name), ...rates.map(([key, rate]) => `${key}=${rate}`)].join(" ") + ";";
 }
 
-// The settings as nginx takes them within http, a directive a line.
+// The settings as nginx takes them within http.
 function nginxSettings(settings) {
   const { servers, counting, clients } = settings;
   const lines = [nginxZone(settings)];

@@ -70,7 +70,8 @@ function nginxSettings(settings) {
   const { servers, counting, clients } = settings;
   const lines = [nginxZone(settings)];
   if (servers > 1) {
-    lines.unshift(`# the same at each of the ${servers} nodes; their front has`, `# dmclock_tracker cluster $tenant ${counting};`,
+    lines.unshift(`# the same at each of the ${servers} nodes, with dmclock_trust for their front, which has`,
+      `# dmclock_tracker cluster $tenant ${counting};`,
       `# and in the upstream dmclock_track cluster;${hasCosts(settings) ? " and dmclock_cost as here" : ""}`);
   }
   if (hasCosts(settings)) {

@@ -152,8 +152,8 @@ function warningsOf(settings, rates) {
   const weights = rates.reduce((sum, { weight }) => sum + weight, 0);
   const found = [];
   if (shares === "clock" && weights > whole)
-    found.push(`The weights sum to ${plain(weights)}, which is more than the ${plain(whole)} ${countedOf(settings)} a second that are served: `
-      + "by the clock, clients don't get shares by them. Take small numbers such as 1, 2 and 3, or virtual time.");
+    found.push(`The weights sum to ${plain(weights)}, which is more than the ${plain(whole)} ${countedOf(settings)} a second that are `
+      + "served: by the clock, clients don't get shares by them. Take small numbers such as 1, 2 and 3, or virtual time.");
   clients.forEach(({ name }, id) => {
     const { reservation, limit } = rates[id];
     if (limit && reservation > limit) found.push(`The reservation of ${name} is above its limit: the reservation wins.`);

@@ -522,7 +522,10 @@ static int enter(struct connection *connection, uint32_t bytes, int *err)
 
 static int leave(struct connection *connection, int result)
 {
-  gate_leave(&gate);
+  if (result == -1)
+    gate_leave_failed(&gate, connection->client);
+  else
+    gate_leave(&gate);
   if (is_gone(connection))
     hold_door(connection);
   return result;

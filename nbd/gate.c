@@ -835,12 +835,25 @@ int gate_enter(struct gate *gate, struct client *client, uint32_t bytes, struct 
   return fault;
 }
 
-void gate_leave(struct gate *gate)
+/* The device is done with a request; of a client whose request it ended with an error, or of NULL. */
+static void leave(struct gate *gate, struct client *failed)
 {
   uint64_t now = gate_now(gate);
   pthread_mutex_lock(&gate->lock);
   gate->under_way--;
+  if (failed)
+    failed->errors++;
   struct slot *granted = dispatch(gate, now);
   pthread_mutex_unlock(&gate->lock);
   wake(granted, NULL);
+}
+
+void gate_leave(struct gate *gate)
+{
+  leave(gate, NULL);
+}
+
+void gate_leave_failed(struct gate *gate, struct client *client)
+{
+  leave(gate, client);
 }

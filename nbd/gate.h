@@ -49,6 +49,7 @@ struct client {
   uint64_t beyond;         /* those of them beyond the limit */
   uint64_t cancelled;      /* requests whose waiter went while they were queued */
   uint64_t refused;        /* requests that came over the limit, and are not among `requests` */
+  uint64_t errors;         /* granted requests that the device ended with an error */
   uint64_t last_request;   /* nanoseconds of the gate's clock */
   struct times waited;     /* from entering to the grant */
   struct buckets buckets[2]; /* the same, by dmc_phase */
@@ -117,11 +118,14 @@ void gate_release(struct gate *, struct client *);
    them asks it at the end of each slice whether they are wanted, and each asks at its grant if it had to wait. If they are not, their
    waits end; they leave the queue a slice later, and what was charged for them is given back. Returns 0; else ECANCELED if the waiter has
    gone, ENOMEM if an allocation failed, the queue is full or the request is over the client's limit, or the errno that the gate was
-   stopped with. After 0, and only then, `gate_leave` must follow. */
+   stopped with. After 0, and only then, `gate_leave` or `gate_leave_failed` must follow. */
 int gate_enter(struct gate *, struct client *, uint32_t bytes, struct waiter *);
 
 /* The device is done with a request. */
 void gate_leave(struct gate *);
+
+/* The device has ended a request of this client with an error. */
+void gate_leave_failed(struct gate *, struct client *);
 
 /* Nanoseconds since the gate was opened. */
 uint64_t gate_now(const struct gate *);

@@ -176,6 +176,25 @@ static void waiting(void)
   gate_close(&gate);
 }
 
+/* What the device ended with an error is counted for its client, and its place is free as after any other. */
+static void failed(void)
+{
+  struct gate gate = {0};
+  struct client *client, *other;
+  struct rates none = rates_of(0, 1, 0);
+  bool has_waited;
+  CHECK(gate_open(&gate, &one_at_once) == 0);
+  CHECK(gate_client(&gate, "a", &none, true, &client) == 0 && gate_client(&gate, "b", &none, true, &other) == 0);
+  for (int i = 0; i < 3; i++) {
+    CHECK(enter_for(&gate, client, 0, &has_waited) == 0 && !has_waited);
+    gate_leave_failed(&gate, client);
+  }
+  CHECK(enter_for(&gate, other, 0, &has_waited) == 0 && !has_waited);
+  gate_leave(&gate);
+  CHECK(client->errors == 3 && other->errors == 0 && gate.under_way == 0);
+  gate_close(&gate);
+}
+
 /* What requests cost by their bytes: as many units as they begin, and 1 at least; each 1 without a unit. */
 static void sizes(void)
 {
@@ -969,6 +988,7 @@ int main(void)
   rates();
   percentiles();
   waiting();
+  failed();
   due_later();
   sizes();
   limit_by_cost();

@@ -4,6 +4,7 @@
 #include <errno.h>
 #include <stdlib.h>
 #include <string.h>
+#include <time.h>
 #include <unistd.h>
 
 /* ---- rows */
@@ -19,12 +20,20 @@ void report_free(struct report *report)
 static bool copy_row(struct row *row, const struct client *client)
 {
   *row = (struct row){.name = strdup(client->name), .rates = client->rates, .requests = client->requests, .beyond = client->beyond,
-                      .cancelled = client->cancelled, .refused = client->refused, .queued = client->queued, .waited = client->waited};
+                      .cancelled = client->cancelled, .refused = client->refused, .errors = client->errors, .queued = client->queued,
+                      .waited = client->waited};
   memcpy(row->grants, client->grants, sizeof row->grants);
   memcpy(row->costs, client->costs, sizeof row->costs);
   memcpy(row->bytes, client->bytes, sizeof row->bytes);
   memcpy(row->buckets, client->buckets, sizeof row->buckets);
   return row->name != NULL;
+}
+
+static double wall_clock(void)
+{
+  struct timespec time;
+  clock_gettime(CLOCK_REALTIME, &time);
+  return (double)time.tv_sec + (double)time.tv_nsec / 1e9;
 }
 
 /* Copies the clients that have a row of the room: no memory but names is allocated while requests wait for the lock. Returns how many
@@ -33,6 +42,7 @@ static size_t copy_rows(struct gate *gate, struct report *report)
 {
   size_t clients = 0;
   pthread_mutex_lock(&gate->lock);
+  report->time = wall_clock();
   report->seconds = (double)gate_now(gate) / 1e9;
   report->depth = gate->config.depth;
   report->under_way = gate->under_way;

@@ -10,7 +10,7 @@
 struct row {
   char *name;
   struct rates rates;
-  uint64_t requests, grants[2], costs[2], bytes[2], beyond, cancelled, refused;
+  uint64_t requests, grants[2], costs[2], bytes[2], beyond, cancelled, refused, errors;
   uint32_t queued;
   struct times waited;
   struct buckets buckets[2];
@@ -19,6 +19,7 @@ struct row {
 struct report {
   struct row *rows;
   size_t count, room;
+  double time;    /* seconds since 1970 */
   double seconds; /* since the gate was opened */
   uint32_t depth, under_way;
 };

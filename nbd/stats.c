@@ -4,13 +4,13 @@
 
 #include "text.h"
 
-static void put_row(FILE *text, const struct row *client, double seconds)
+static void put_row(FILE *text, const struct report *report, const struct row *client)
 {
   const struct times *waited = &client->waited;
-  fprintf(text, "{\"seconds\": %.3f, \"client\": ", seconds);
+  fprintf(text, "{\"time\": %.3f, \"seconds\": %.3f, \"client\": ", report->time, report->seconds);
   text_put_json(text, client->name);
-  fprintf(text, ", \"requests\": %" PRIu64 ", \"refused\": %" PRIu64 ", \"cancelled\": %" PRIu64, client->requests, client->refused,
-          client->cancelled);
+  fprintf(text, ", \"requests\": %" PRIu64 ", \"refused\": %" PRIu64 ", \"cancelled\": %" PRIu64 ", \"errors\": %" PRIu64,
+          client->requests, client->refused, client->cancelled, client->errors);
   fprintf(text, ", \"reservation\": %" PRIu64 ", \"priority\": %" PRIu64 ", \"queued\": %" PRIu32, client->grants[DMC_RESERVATION],
           client->grants[DMC_PRIORITY], client->queued);
   fprintf(text, ", \"cost\": %" PRIu64 ", \"bytes\": %" PRIu64, client->costs[DMC_RESERVATION] + client->costs[DMC_PRIORITY],
@@ -22,5 +22,5 @@ static void put_row(FILE *text, const struct row *client, double seconds)
 void stats_put(FILE *text, const struct report *report)
 {
   for (size_t i = 0; i < report->count; i++)
-    put_row(text, &report->rows[i], report->seconds);
+    put_row(text, report, &report->rows[i]);
 }

@@ -23,7 +23,7 @@ static struct settings settings;
 static pthread_mutex_t settings_lock = PTHREAD_MUTEX_INITIALIZER;
 static struct gate gate;
 
-/* The thread that learns of a shutdown, writes what is reported, and reads the file again. */
+/* The thread that writes what is reported, reads the file again, and logs what stops the gate. */
 static pthread_t watcher;
 static bool has_watcher;
 
@@ -47,8 +47,8 @@ struct connection {
 static struct connection *connections;
 static pthread_mutex_t connections_lock = PTHREAD_MUTEX_INITIALIZER;
 
-/* Whether a connection is still there. nbdkit says so by how a sleep ends, and logs each that ends early: so one that has gone is not
-   asked about again. */
+/* Whether a connection is still there; at a shutdown none is. nbdkit says so by how a sleep ends, and logs each that ends early: so one
+   that has gone is not asked about again. */
 static bool is_there(struct waiter *waiter)
 {
   struct connection *connection = (struct connection *)waiter;
@@ -366,25 +366,26 @@ static void write_reports(void)
   report_free(&report);
 }
 
-/* Whether the gate grants nothing any more. A reason other than a shutdown is logged. */
-static bool is_stopped(void)
+/* Logs why the gate grants nothing any more, if that is no shutdown. */
+static void log_stop(void)
 {
   pthread_mutex_lock(&gate.lock);
-  bool stopped = gate.fault != 0;
   const char *reason = gate.reason;
   pthread_mutex_unlock(&gate.lock);
-  if (stopped && reason)
+  if (reason)
     nbdkit_error("dmclock: %s: from now on each request ends with an error", reason);
-  return stopped;
 }
 
-/* A sleep of nbdkit ends early at a shutdown. Then those who wait for a grant have to know. */
+/* Works each second until the gate is stopped. A sleep of nbdkit would end at a shutdown with a line in the log. Those who wait for a
+   grant look for one themselves, and the gate is stopped once nobody is in it. */
 static void *watch(void *unused)
 {
+  bool is_stopped = false;
   (void)unused;
-  while (!is_stopped()) {
-    if (nbdkit_nanosleep(1, 0) == -1)
-      gate_stop(&gate, ESHUTDOWN);
+  while (!is_stopped) {
+    is_stopped = gate_await_stop(&gate, 1000000000);
+    if (is_stopped)
+      log_stop();
     else if (given.config && (is_asked() | is_written()))
       read_again();
     write_reports();

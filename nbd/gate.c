@@ -156,6 +156,7 @@ static void stop(struct gate *gate, int fault)
     sem_post(&slot->wakes);
   }
   pthread_cond_signal(&gate->timer_wakes);
+  pthread_cond_broadcast(&gate->stops);
   wake_held(gate, NULL, NULL);
 }
 
@@ -420,12 +421,18 @@ static uint64_t least(uint64_t a, uint64_t b)
   return a < b ? a : b;
 }
 
-static void sleep_until(struct gate *gate, uint64_t nanos)
+/* Waits, with the lock, for a condition, until this time of the gate's clock at most. */
+static void await(struct gate *gate, pthread_cond_t *condition, uint64_t nanos)
 {
   uint64_t at = nanos < NEVER - gate->start ? gate->start + nanos : NEVER;
   struct timespec until = {.tv_sec = (time_t)(at / SECOND), .tv_nsec = (long)(at % SECOND)};
+  pthread_cond_timedwait(condition, &gate->lock, &until);
+}
+
+static void sleep_until(struct gate *gate, uint64_t nanos)
+{
   gate->timer_until = nanos;
-  pthread_cond_timedwait(&gate->timer_wakes, &gate->lock, &until);
+  await(gate, &gate->timer_wakes, nanos);
   gate->timer_until = 0;
 }
 
@@ -693,13 +700,14 @@ static void init_lock(pthread_mutex_t *lock)
   pthread_mutexattr_destroy(&short_time);
 }
 
-/* The timer waits by the gate's clock. None of these calls can fail, of what is within a process. */
-static void init_timer(struct gate *gate)
+/* Conditions are waited for by the gate's clock. None of these calls can fail, of what is within a process. */
+static void init_conditions(struct gate *gate)
 {
   pthread_condattr_t by_clock;
   pthread_condattr_init(&by_clock);
   pthread_condattr_setclock(&by_clock, CLOCK_MONOTONIC);
   pthread_cond_init(&gate->timer_wakes, &by_clock);
+  pthread_cond_init(&gate->stops, &by_clock);
   pthread_condattr_destroy(&by_clock);
 }
 
@@ -716,7 +724,7 @@ int gate_open(struct gate *gate, const struct gate_config *config)
   if (fault)
     return fault;
   init_lock(&gate->lock);
-  init_timer(gate);
+  init_conditions(gate);
   return 0;
 }
 
@@ -732,6 +740,17 @@ void gate_stop(struct gate *gate, int fault)
   pthread_mutex_lock(&gate->lock);
   stop(gate, fault);
   pthread_mutex_unlock(&gate->lock);
+}
+
+bool gate_await_stop(struct gate *gate, uint64_t nanos)
+{
+  uint64_t until = gate_now(gate) + nanos;
+  pthread_mutex_lock(&gate->lock);
+  while (!gate->fault && gate_now(gate) < until)
+    await(gate, &gate->stops, until);
+  bool is_stopped = gate->fault != 0;
+  pthread_mutex_unlock(&gate->lock);
+  return is_stopped;
 }
 
 static void free_clients(struct gate *gate)
@@ -753,6 +772,7 @@ void gate_close(struct gate *gate)
   free(gate->places);
   dmc_queue_free(&gate->queue);
   pthread_cond_destroy(&gate->timer_wakes);
+  pthread_cond_destroy(&gate->stops);
   pthread_mutex_destroy(&gate->lock);
 }
 

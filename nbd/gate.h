@@ -60,6 +60,7 @@ struct client {
 struct gate {
   pthread_mutex_t lock;
   pthread_cond_t timer_wakes;
+  pthread_cond_t stops;    /* the gate does */
   pthread_t timer;
   bool has_timer;
   struct gate_config config;
@@ -91,6 +92,9 @@ int gate_start(struct gate *);
 
 /* From now on each request ends with this errno, those that wait too. */
 void gate_stop(struct gate *, int fault);
+
+/* Waits until the gate is stopped, for so long at most. Returns whether it is. */
+bool gate_await_stop(struct gate *, uint64_t nanos);
 
 /* Ends the timer and frees all. Nobody is in the gate. */
 void gate_close(struct gate *);

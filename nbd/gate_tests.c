@@ -176,6 +176,28 @@ static void waiting(void)
   gate_close(&gate);
 }
 
+static void *stop_later(void *gate)
+{
+  usleep(20000);
+  gate_stop(gate, ESHUTDOWN);
+  return NULL;
+}
+
+/* Who waits for a stop waits as long as asked, and no longer than until it comes. */
+static void awaited_stop(void)
+{
+  struct gate gate = {0};
+  pthread_t thread;
+  CHECK(gate_open(&gate, &one_at_once) == 0);
+  CHECK(!gate_await_stop(&gate, 20000000) && 20000000 <= gate_now(&gate));
+  pthread_create(&thread, NULL, stop_later, &gate);
+  uint64_t hour = 3600 * UINT64_C(1000000000);
+  CHECK(gate_await_stop(&gate, hour) && gate_now(&gate) < hour);
+  CHECK(gate_await_stop(&gate, hour) && gate_now(&gate) < hour);
+  pthread_join(thread, NULL);
+  gate_close(&gate);
+}
+
 /* What the device ended with an error is counted for its client, and its place is free as after any other. */
 static void failed(void)
 {
@@ -988,6 +1010,7 @@ int main(void)
   rates();
   percentiles();
   waiting();
+  awaited_stop();
   failed();
   due_later();
   sizes();

@@ -366,6 +366,18 @@ static void write_reports(void)
   report_free(&report);
 }
 
+/* Logs the first request that the queue refused as it should refuse none. Others are counted alone, lest they fill the log. */
+static void log_refusal(void)
+{
+  static bool is_logged;
+  pthread_mutex_lock(&gate.lock);
+  uint32_t code = gate.refusal;
+  pthread_mutex_unlock(&gate.lock);
+  if (code != DMC_OK && !is_logged)
+    nbdkit_error("dmclock: the queue refuses a request with its code %u: it ends with an error, and further ones are only counted", code);
+  is_logged = code != DMC_OK;
+}
+
 /* Logs why the gate grants nothing any more, if that is no shutdown. */
 static void log_stop(void)
 {
@@ -384,6 +396,7 @@ static void *watch(void *unused)
   (void)unused;
   while (!is_stopped) {
     is_stopped = gate_await_stop(&gate, 1000000000);
+    log_refusal();
     if (is_stopped)
       log_stop();
     else if (given.config && (is_asked() | is_written()))

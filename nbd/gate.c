@@ -475,12 +475,17 @@ static void free_client(struct client *client)
   free(client);
 }
 
-/* The client has a place in the queue, whether or not it had one. */
-static int register_client(struct gate *gate, const struct client *client, uint64_t now)
+/* The client has a place in the queue, whether or not it had one, if the code is DMC_OK. */
+static uint32_t try_to_register(struct gate *gate, const struct client *client, uint64_t now)
 {
   const struct rates *rates = &client->rates;
   uint32_t code = dmc_queue_register(&gate->queue, client->id, rates->reservation, rates->weight, rates->limit, moment_of(now));
-  return code == DMC_KNOWN ? 0 : errno_of(code);
+  return code == DMC_KNOWN ? DMC_OK : code;
+}
+
+static int register_client(struct gate *gate, const struct client *client, uint64_t now)
+{
+  return errno_of(try_to_register(gate, client, now));
 }
 
 static void register_kept(struct gate *gate, uint64_t now)
@@ -627,22 +632,31 @@ static uint32_t cost_of(const struct gate_config *config, uint32_t bytes)
   return units ? units : 1;
 }
 
-/* Queues a request of a client. One that the queue does not know, or has forgotten, is registered before. A request of one that
-   finds no place, and one over its limit, is refused for want of memory, since NBD has no other word for it. */
-static int queue_request(struct gate *gate, const struct slot *slot)
+/* Adds a request to the queue. A client that it does not know, or has forgotten, is registered before. */
+static uint32_t add_request(struct gate *gate, const struct slot *slot)
 {
-  struct client *client = slot->client;
+  const struct client *client = slot->client;
   uint32_t cost = cost_of(&gate->config, slot->bytes);
   uint64_t moment = moment_of(slot->entered);
   uint32_t code = dmc_queue_add_single(&gate->queue, client->id, slot->token, cost, moment);
-  if (code == DMC_UNKNOWN) {
-    int fault = register_client(gate, client, slot->entered);
-    if (fault)
-      return fault == EBUSY ? ENOMEM : fault;
-    code = dmc_queue_add_single(&gate->queue, client->id, slot->token, cost, moment);
-  }
+  if (code != DMC_UNKNOWN)
+    return code;
+  code = try_to_register(gate, client, slot->entered);
+  return code == DMC_OK ? dmc_queue_add_single(&gate->queue, client->id, slot->token, cost, moment) : code;
+}
+
+/* Queues a request of a client. One whose client finds no place, and one over its limit, is refused for lack of memory, since NBD has no
+   other word for it. What the queue refuses for any other reason is a fault of it, which is counted, and whose first code is kept. */
+static int queue_request(struct gate *gate, const struct slot *slot)
+{
+  struct client *client = slot->client;
+  uint32_t code = add_request(gate, slot);
+  int fault = code == DMC_CLIENTS ? ENOMEM : errno_of(code);
   client->refused += code == DMC_OVER_LIMIT;
-  return errno_of(code);
+  client->queue_faults += fault == EIO;
+  if (fault == EIO && gate->refusal == DMC_OK)
+    gate->refusal = code;
+  return fault;
 }
 
 /* Holds a request, without the lock, until the rates of its client are no longer changing, as long as it is wanted. */

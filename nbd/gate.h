@@ -49,6 +49,7 @@ struct client {
   uint64_t beyond;         /* those of them beyond the limit */
   uint64_t cancelled;      /* requests whose waiter went while they were queued */
   uint64_t refused;        /* requests that came over the limit, and are not among `requests` */
+  uint64_t queue_faults;   /* requests that the queue refused though it had room and they were not over the limit */
   uint64_t errors;         /* granted requests that the device ended with an error */
   uint64_t last_request;   /* nanoseconds of the gate's clock */
   struct times waited;     /* from entering to the grant */
@@ -73,6 +74,7 @@ struct gate {
   uint64_t next_look;      /* when those who wait are looked at; UINT64_MAX if nobody did at the last one */
   int fault;               /* an errno, once no request is granted any more */
   const char *reason;      /* why, if the queue refused what it can't refuse */
+  uint32_t refusal;        /* the code of the first request that counts as a fault of the queue; DMC_OK before */
   uint32_t next_id;
   uint32_t others;         /* the clients that are not kept */
   struct client *first, **last; /* all clients, in the order in which they came */
@@ -121,8 +123,8 @@ void gate_release(struct gate *, struct client *);
 /* Waits for a request of the client, for so many bytes, until it is granted. While requests of a waiter are queued, the thread of one of
    them asks it at the end of each slice whether they are wanted, and each asks at its grant if it had to wait. If they are not, their
    waits end; they leave the queue a slice later, and what was charged for them is given back. Returns 0; else ECANCELED if the waiter has
-   gone, ENOMEM if an allocation failed, the queue is full or the request is over the client's limit, or the errno that the gate was
-   stopped with. After 0, and only then, `gate_leave` or `gate_leave_failed` must follow. */
+   gone, ENOMEM if an allocation failed, the queue is full or the request is over the client's limit, EIO if the queue refuses it for
+   another reason, or the errno that the gate was stopped with. After 0, and only then, `gate_leave` or `gate_leave_failed` must follow. */
 int gate_enter(struct gate *, struct client *, uint32_t bytes, struct waiter *);
 
 /* The device is done with a request. */

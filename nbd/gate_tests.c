@@ -217,6 +217,31 @@ static void failed(void)
   gate_close(&gate);
 }
 
+/* A request that the queue refuses, and not for its memory, its room or a limit, is counted, and the first reason is known. */
+static void queue_faults(void)
+{
+  struct gate gate = {0};
+  struct client *client;
+  struct rates none = rates_of(0, 1, 0);
+  bool has_waited;
+  CHECK(gate_open(&gate, &one_at_once) == 0 && gate_client(&gate, "a", &none, true, &client) == 0);
+  CHECK(enter_for(&gate, client, 0, &has_waited) == 0 && client->queue_faults == 0 && gate.refusal == DMC_OK);
+  gate_leave(&gate);
+  struct dmc_queue queue = gate.queue;
+  gate.queue = dmc_queue_none();
+  CHECK(enter_for(&gate, client, 0, &has_waited) == EIO && client->queue_faults == 1 && gate.refusal == DMC_NONE_HELD);
+  gate.queue = queue;
+  uint32_t weight = client->rates.weight;
+  client->id = 1; /* which the queue does not know, and does not register with these rates */
+  client->rates.weight = 0;
+  CHECK(enter_for(&gate, client, 0, &has_waited) == EIO && client->queue_faults == 2 && gate.refusal == DMC_NONE_HELD);
+  client->id = 0;
+  client->rates.weight = weight;
+  CHECK(enter_for(&gate, client, 0, &has_waited) == 0 && client->queue_faults == 2 && client->requests == 2 && !gate.reason);
+  gate_leave(&gate);
+  gate_close(&gate);
+}
+
 /* What requests cost by their bytes: as many units as they begin, and 1 at least; each 1 without a unit. */
 static void sizes(void)
 {
@@ -1012,6 +1037,7 @@ int main(void)
   waiting();
   awaited_stop();
   failed();
+  queue_faults();
   due_later();
   sizes();
   limit_by_cost();

@@ -35,6 +35,7 @@ static uint64_t requests_of(const struct row *client) { return client->requests;
 static uint64_t beyond_of(const struct row *client) { return client->beyond; }
 static uint64_t cancelled_of(const struct row *client) { return client->cancelled; }
 static uint64_t refused_of(const struct row *client) { return client->refused; }
+static uint64_t queue_faults_of(const struct row *client) { return client->queue_faults; }
 static uint64_t errors_of(const struct row *client) { return client->errors; }
 static uint64_t queued_of(const struct row *client) { return client->queued; }
 static uint64_t reservation_of(const struct row *client) { return client->rates.reservation; }
@@ -94,6 +95,7 @@ void metrics_put(FILE *text, const struct report *report)
   put_each(text, report, "dmclock_beyond_total", "counter", "Grants beyond the client's limit (dmclock-at-limit=allow).", beyond_of, false);
   put_each(text, report, "dmclock_cancelled_total", "counter", "Requests whose connection went while they were queued.", cancelled_of, false);
   put_each(text, report, "dmclock_refused_total", "counter", "Requests over the client's limit (dmclock-at-limit=reject).", refused_of, false);
+  put_each(text, report, "dmclock_queue_faults_total", "counter", "Requests that the queue refused by a fault.", queue_faults_of, false);
   put_each(text, report, "dmclock_errors_total", "counter", "Requests that the device ended with an error.", errors_of, false);
   put_waits(text, report);
   put_each(text, report, "dmclock_queued", "gauge", "Requests that wait.", queued_of, false);

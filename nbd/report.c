@@ -20,8 +20,8 @@ void report_free(struct report *report)
 static bool copy_row(struct row *row, const struct client *client)
 {
   *row = (struct row){.name = strdup(client->name), .rates = client->rates, .requests = client->requests, .beyond = client->beyond,
-                      .cancelled = client->cancelled, .refused = client->refused, .errors = client->errors, .queued = client->queued,
-                      .waited = client->waited};
+                      .cancelled = client->cancelled, .refused = client->refused, .queue_faults = client->queue_faults,
+                      .errors = client->errors, .queued = client->queued, .waited = client->waited};
   memcpy(row->grants, client->grants, sizeof row->grants);
   memcpy(row->costs, client->costs, sizeof row->costs);
   memcpy(row->bytes, client->bytes, sizeof row->bytes);

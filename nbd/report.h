@@ -10,7 +10,7 @@
 struct row {
   char *name;
   struct rates rates;
-  uint64_t requests, grants[2], costs[2], bytes[2], beyond, cancelled, refused, errors;
+  uint64_t requests, grants[2], costs[2], bytes[2], beyond, cancelled, refused, queue_faults, errors;
   uint32_t queued;
   struct times waited;
   struct buckets buckets[2];

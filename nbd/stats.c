@@ -9,8 +9,9 @@ static void put_row(FILE *text, const struct report *report, const struct row *c
   const struct times *waited = &client->waited;
   fprintf(text, "{\"time\": %.3f, \"seconds\": %.3f, \"client\": ", report->time, report->seconds);
   text_put_json(text, client->name);
-  fprintf(text, ", \"requests\": %" PRIu64 ", \"refused\": %" PRIu64 ", \"cancelled\": %" PRIu64 ", \"errors\": %" PRIu64,
-          client->requests, client->refused, client->cancelled, client->errors);
+  fprintf(text, ", \"requests\": %" PRIu64 ", \"refused\": %" PRIu64 ", \"cancelled\": %" PRIu64, client->requests, client->refused,
+          client->cancelled);
+  fprintf(text, ", \"queue_faults\": %" PRIu64 ", \"errors\": %" PRIu64, client->queue_faults, client->errors);
   fprintf(text, ", \"reservation\": %" PRIu64 ", \"priority\": %" PRIu64 ", \"queued\": %" PRIu32, client->grants[DMC_RESERVATION],
           client->grants[DMC_PRIORITY], client->queued);
   fprintf(text, ", \"cost\": %" PRIu64 ", \"bytes\": %" PRIu64, client->costs[DMC_RESERVATION] + client->costs[DMC_PRIORITY],

@@ -277,7 +277,7 @@ static int dmclock_get_ready(int thread_model)
     return is_failed("the queue", fault);
   if (register_clients() == -1)
     return -1;
-  settings_print(&settings);
+  settings_log(&settings);
   return 0;
 }
 
@@ -337,7 +337,9 @@ static void read_again(void)
   change_gate(&settings, &before);
   pthread_mutex_unlock(&settings_lock);
   settings_free(&before);
-  settings_print(&settings);
+  char printable[PRINTABLE_SIZE];
+  nbdkit_error("dmclock: %s is read again, and its settings hold", text_printable(settings.config, printable));
+  settings_log(&settings);
 }
 
 /* ---- the watcher */

@@ -511,35 +511,42 @@ static void warn_of_capacity(const struct settings *settings)
                    ? " (dmclock-default counts for each of dmclock-default-clients)" : "");
 }
 
-/* A rate, and what was asked if that is another. With a unit it is said in bytes a second, too. */
-static void print_rate(const char *name, uint32_t asked, uint32_t found, uint32_t unit)
+#define RATE_SIZE 80
+
+/* A rate in words, and what was asked if that is another. With a unit it is said in bytes a second, too. Returns `text`. */
+static const char *rate_text(const char *name, uint32_t asked, uint32_t found, uint32_t unit, char text[RATE_SIZE])
 {
-  if (!asked)
-    fprintf(stderr, ", no %s", name);
-  else if (asked == found)
-    fprintf(stderr, ", %s %u", name, found);
+  char other[24] = "", bytes[40] = "";
+  if (asked != found)
+    snprintf(other, sizeof other, " for %u", asked);
+  if (unit)
+    snprintf(bytes, sizeof bytes, " (%.1f MiB/s)", (double)found * unit / (1 << 20));
+  if (asked)
+    snprintf(text, RATE_SIZE, "%s %u%s%s", name, found, other, bytes);
   else
-    fprintf(stderr, ", %s %u for %u", name, found, asked);
-  if (asked && unit)
-    fprintf(stderr, " (%.1f MiB/s)", (double)found * unit / (1 << 20));
+    snprintf(text, RATE_SIZE, "no %s", name);
+  return text;
 }
 
-static void print_rates(const char *name, const struct rates_setting *rates, uint32_t unit)
+/* Says what the rates became. nbdkit has errors, which reach the log wherever it is, and what is shown with -v alone: so rates that
+   became others are logged as errors, and no line that says so is of rates that are as they were typed. */
+static void log_rates(const char *name, const struct rates_setting *rates, uint32_t unit)
 {
-  char printable[PRINTABLE_SIZE];
-  fprintf(stderr, "dmclock: %s", text_printable(name, printable));
-  print_rate("reservation", rates->asked.reservation, rates->found.reservation, unit);
-  print_rate("weight", rates->asked.weight, rates->found.weight, 0);
-  print_rate("limit", rates->asked.limit, rates->found.limit, unit);
-  fprintf(stderr, "\n");
+  const struct rates *asked = &rates->asked, *found = &rates->found;
+  bool is_same = asked->reservation == found->reservation && asked->weight == found->weight && asked->limit == found->limit;
+  char printable[PRINTABLE_SIZE], reservation[RATE_SIZE], weight[RATE_SIZE], limit[RATE_SIZE];
+  (is_same ? nbdkit_debug : nbdkit_error)("dmclock: %s, %s, %s, %s", text_printable(name, printable),
+                                          rate_text("reservation", asked->reservation, found->reservation, unit, reservation),
+                                          rate_text("weight", asked->weight, found->weight, 0, weight),
+                                          rate_text("limit", asked->limit, found->limit, unit, limit));
 }
 
-void settings_print(const struct settings *settings)
+void settings_log(const struct settings *settings)
 {
   for (const struct client_setting *client = settings->clients; client; client = client->next)
-    print_rates(client->name, &client->rates, settings->gate.unit);
+    log_rates(client->name, &client->rates, settings->gate.unit);
   if (settings->has_default)
-    print_rates(settings->is_shared ? "other names together" : "other names, each", &settings->others, settings->gate.unit);
+    log_rates(settings->is_shared ? "other names together" : "other names, each", &settings->others, settings->gate.unit);
   warn_of_capacity(settings);
 }
 

@@ -74,8 +74,9 @@ bool settings_agree(const struct settings *);
 /* Whether these settings may take the place of others while the filter runs, after an error that names one that may not change. */
 bool settings_may_follow(const struct settings *, const struct settings *others);
 
-/* Says what the rates became, and warns if the reservations are more than the capacity. */
-void settings_print(const struct settings *);
+/* Logs the rates that became others than were typed, and warns if the reservations are more than the capacity. With -v nbdkit shows the
+   other rates, too. */
+void settings_log(const struct settings *);
 
 void settings_free(struct settings *);
 

@@ -2,6 +2,8 @@
 #include "settings.h"
 
 #include <errno.h>
+#include <inttypes.h>
+#include <limits.h>
 #include <stdarg.h>
 #include <stdio.h>
 #include <stdlib.h>
@@ -123,40 +125,52 @@ static const char *last_fields(const char *value)
 
 /* ---- keys */
 
-/* An error, with the line of the file that it is in. */
-__attribute__((format(printf, 2, 3))) static void say_error(const struct settings *settings, const char *format, ...)
+/* What is wrong is in no line of the file, but in all of it, if there is one. */
+#define WHOLE_FILE UINT_MAX
+
+/* An error, with the line of the file that it is in; 0 if it is of the command line. */
+__attribute__((format(printf, 3, 4))) static void say_error(const struct settings *settings, unsigned line, const char *format, ...)
 {
   char text[1024], file[PRINTABLE_SIZE];
   va_list words;
   va_start(words, format);
   vsnprintf(text, sizeof text, format, words);
   va_end(words);
-  if (settings->line)
-    nbdkit_error("%s, line %u: %s", text_printable(settings->config, file), settings->line, text);
-  else
+  if (!line || !settings->config)
     nbdkit_error("%s", text);
+  else if (line == WHOLE_FILE)
+    nbdkit_error("%s: %s", text_printable(settings->config, file), text);
+  else
+    nbdkit_error("%s, line %u: %s", text_printable(settings->config, file), line, text);
 }
 
 static int is_bad(const struct settings *settings, const char *key, const char *value, const char *wanted)
 {
   char printable[PRINTABLE_SIZE];
-  say_error(settings, "%s=%s: wanted is %s", key, text_printable(value, printable), wanted);
+  say_error(settings, settings->line, "%s=%s: wanted is %s", key, text_printable(value, printable), wanted);
   return -1;
 }
 
 static int is_faulty(const struct settings *settings, const char *key, const char *value, const char *fault, const char *wanted)
 {
   char printable[PRINTABLE_SIZE];
-  say_error(settings, "%s=%s: %s; wanted is %s, in requests a second, or in bytes, as 10MiB/s", key, text_printable(value, printable), fault, wanted);
+  say_error(settings, settings->line, "%s=%s: %s; wanted is %s, in requests a second, or in bytes, as 10MiB/s", key,
+            text_printable(value, printable), fault, wanted);
   return -1;
+}
+
+/* The client of a name, or NULL. */
+static const struct client_setting *find_client(const struct settings *settings, const char *name)
+{
+  const struct client_setting *client = settings->clients;
+  while (client && strcmp(client->name, name) != 0)
+    client = client->next;
+  return client;
 }
 
 bool settings_have(const struct settings *settings, const char *name)
 {
-  for (const struct client_setting *client = settings->clients; client; client = client->next)
-    if (strcmp(client->name, name) == 0)
-      return true;
-  return false;
+  return find_client(settings, name);
 }
 
 static void append(struct settings *settings, struct client_setting *client)
@@ -273,6 +287,16 @@ static int set_seconds(const struct settings *settings, uint64_t *seconds, const
   return read_count(value, MOST_SECONDS, seconds) ? 1 : is_bad(settings, key, value, "1 to 1000000000 seconds");
 }
 
+static int set_idle(struct settings *settings, const char *key, const char *value)
+{
+  return set_seconds(settings, &settings->gate.idle_seconds, key, value);
+}
+
+static int set_erase(struct settings *settings, const char *key, const char *value)
+{
+  return set_seconds(settings, &settings->gate.erase_seconds, key, value);
+}
+
 static int set_capacity(struct settings *settings, const char *key, const char *value)
 {
   return read_rate(value, strlen(value), UINT32_MAX, &settings->capacity)
@@ -296,39 +320,47 @@ static int set_config(struct settings *settings, const char *key, const char *va
   return set_path(settings, &settings->config, key, value);
 }
 
+static int set_stats(struct settings *settings, const char *key, const char *value)
+{
+  return set_path(settings, &settings->stats, key, value);
+}
+
+static int set_metrics(struct settings *settings, const char *key, const char *value)
+{
+  return set_path(settings, &settings->metrics, key, value);
+}
+
+/* Each key, and what reads its value: as `settings_read`. */
+static const struct {
+  const char *name;
+  int (*set)(struct settings *, const char *key, const char *value);
+} keys[KEYS] = {
+  [KEY_CLIENT] = {"dmclock-client", add_client},
+  [KEY_DEFAULT] = {"dmclock-default", set_default},
+  [KEY_DEFAULT_CLIENTS] = {"dmclock-default-clients", set_default_clients},
+  [KEY_DEFAULT_SHARED] = {"dmclock-default-shared", set_shared},
+  [KEY_UNIT] = {"dmclock-unit", set_unit},
+  [KEY_DEPTH] = {"dmclock-depth", set_depth},
+  [KEY_AT_LIMIT] = {"dmclock-at-limit", set_at_limit},
+  [KEY_SHARES] = {"dmclock-shares", set_shares},
+  [KEY_IDLE] = {"dmclock-idle", set_idle},
+  [KEY_ERASE] = {"dmclock-erase", set_erase},
+  [KEY_CAPACITY] = {"dmclock-capacity", set_capacity},
+  [KEY_STATS] = {"dmclock-stats", set_stats},
+  [KEY_METRICS] = {"dmclock-metrics", set_metrics},
+  [KEY_CONFIG] = {"dmclock-config", set_config},
+};
+
 int settings_read(struct settings *settings, const char *key, const char *value)
 {
-  if (strcmp(key, "dmclock-client") == 0)
-    return add_client(settings, key, value);
-  if (strcmp(key, "dmclock-default") == 0)
-    return set_default(settings, key, value);
-  if (strcmp(key, "dmclock-default-clients") == 0)
-    return set_default_clients(settings, key, value);
-  if (strcmp(key, "dmclock-default-shared") == 0)
-    return set_shared(settings, key, value);
-  if (strcmp(key, "dmclock-unit") == 0)
-    return set_unit(settings, key, value);
-  if (strcmp(key, "dmclock-depth") == 0)
-    return set_depth(settings, key, value);
-  if (strcmp(key, "dmclock-at-limit") == 0)
-    return set_at_limit(settings, key, value);
-  if (strcmp(key, "dmclock-shares") == 0)
-    return set_shares(settings, key, value);
-  if (strcmp(key, "dmclock-idle") == 0)
-    return set_seconds(settings, &settings->gate.idle_seconds, key, value);
-  if (strcmp(key, "dmclock-erase") == 0)
-    return set_seconds(settings, &settings->gate.erase_seconds, key, value);
-  if (strcmp(key, "dmclock-capacity") == 0)
-    return set_capacity(settings, key, value);
-  if (strcmp(key, "dmclock-stats") == 0)
-    return set_path(settings, &settings->stats, key, value);
-  if (strcmp(key, "dmclock-metrics") == 0)
-    return set_path(settings, &settings->metrics, key, value);
-  if (strcmp(key, "dmclock-config") == 0)
-    return set_config(settings, key, value);
+  for (int which = 0; which < KEYS; which++)
+    if (strcmp(key, keys[which].name) == 0) {
+      settings->lines[which] = settings->line;
+      return keys[which].set(settings, key, value);
+    }
   if (strncmp(key, "dmclock-", strlen("dmclock-")) == 0)
-    return is_bad(settings, key, value, "another key: dmclock-client, -default, -default-clients, -default-shared, -unit, -depth, -at-limit, -shares, -idle, -erase, "
-                                 "-capacity, -stats, -metrics or -config");
+    return is_bad(settings, key, value, "another key: dmclock-client, -default, -default-clients, -default-shared, -unit, -depth, -at-limit, "
+                                        "-shares, -idle, -erase, -capacity, -stats, -metrics or -config");
   return 0;
 }
 
@@ -356,7 +388,7 @@ static bool read_line(struct settings *settings, char *line)
   int read = value ? settings_read(settings, line, value) : 0;
   char printable[PRINTABLE_SIZE];
   if (read == 0)
-    say_error(settings, "%s: wanted is a setting of this filter, KEY=VALUE", text_printable(line, printable));
+    say_error(settings, settings->line, "%s: wanted is a setting of this filter, KEY=VALUE", text_printable(line, printable));
   return read == 1;
 }
 
@@ -391,22 +423,22 @@ bool settings_read_file(struct settings *settings)
 /* ---- the rates of all settings */
 
 /* Finds the rates of a setting; an error names the line that it is in. */
-static bool find_setting(struct settings *settings, const char *key, struct rates_setting *rates)
+static bool find_setting(const struct settings *settings, const char *key, struct rates_setting *rates)
 {
   char printable[PRINTABLE_SIZE];
   fault_text fault;
   bool is_found = find_rates(rates, settings->gate.unit, fault);
-  settings->line = rates->line;
   if (!is_found)
-    say_error(settings, "%s=%s: %s", key, text_printable(rates->value, printable), fault);
-  settings->line = 0;
+    say_error(settings, rates->line, "%s=%s: %s", key, text_printable(rates->value, printable), fault);
   return is_found;
 }
 
 bool settings_find_rates(struct settings *settings)
 {
-  if (settings->capacity.is_bytes && !settings->gate.unit)
-    return is_bad(settings, "dmclock-capacity", "bytes", "a number, since there is no dmclock-unit") > 0;
+  if (settings->capacity.is_bytes && !settings->gate.unit) {
+    say_error(settings, settings->lines[KEY_CAPACITY], "dmclock-capacity is in bytes, and there is no dmclock-unit");
+    return false;
+  }
   for (struct client_setting *client = settings->clients; client; client = client->next)
     if (!find_setting(settings, "dmclock-client", &client->rates))
       return false;
@@ -449,19 +481,28 @@ bool settings_copy(const struct settings *settings, struct settings *copy)
 
 /* ---- settings together */
 
+/* The last line of the file that has either of two settings. */
+static unsigned last_line(unsigned one, unsigned other)
+{
+  return one < other ? other : one;
+}
+
 bool settings_agree(const struct settings *settings)
 {
+  const unsigned *lines = settings->lines;
   if (settings->gate.erase_seconds < settings->gate.idle_seconds) {
-    nbdkit_error("dmclock-idle=%llu is past dmclock-erase=%llu", (unsigned long long)settings->gate.idle_seconds,
-                 (unsigned long long)settings->gate.erase_seconds);
+    say_error(settings, last_line(lines[KEY_IDLE], lines[KEY_ERASE]), "dmclock-idle=%" PRIu64 " is past dmclock-erase=%" PRIu64,
+              settings->gate.idle_seconds, settings->gate.erase_seconds);
     return false;
   }
-  if (settings->is_shared && settings_have(settings, SHARED_NAME)) {
-    nbdkit_error("dmclock-client=%s:..: with dmclock-default-shared that is the name of all other names", SHARED_NAME);
+  const struct client_setting *shared = settings->is_shared ? find_client(settings, SHARED_NAME) : NULL;
+  if (shared) {
+    say_error(settings, last_line(lines[KEY_DEFAULT_SHARED], shared->rates.line),
+              "dmclock-client=%s:..: with dmclock-default-shared that is the name of all other names", SHARED_NAME);
     return false;
   }
   if (!settings->clients && !settings->has_default) {
-    nbdkit_error("dmclock-client and dmclock-default are missing: no name could be opened");
+    say_error(settings, WHOLE_FILE, "dmclock-client and dmclock-default are missing: no name could be opened");
     return false;
   }
   return true;
@@ -472,21 +513,33 @@ static bool is_same_text(const char *one, const char *other)
   return one && other ? strcmp(one, other) == 0 : one == other;
 }
 
+/* Whether a setting of settings is that of others. */
+static bool is_same(enum settings_key key, const struct settings *settings, const struct settings *others)
+{
+  const struct gate_config *one = &settings->gate, *other = &others->gate;
+  switch (key) {
+    case KEY_DEFAULT_SHARED: return settings->is_shared == others->is_shared;
+    case KEY_UNIT: return one->unit == other->unit;
+    case KEY_AT_LIMIT: return one->at_limit == other->at_limit && one->threshold_millis == other->threshold_millis;
+    case KEY_SHARES: return one->shares == other->shares;
+    case KEY_IDLE: return one->idle_seconds == other->idle_seconds;
+    case KEY_ERASE: return one->erase_seconds == other->erase_seconds;
+    case KEY_STATS: return is_same_text(settings->stats, others->stats);
+    case KEY_METRICS: return is_same_text(settings->metrics, others->metrics);
+    default: return true; /* it may change */
+  }
+}
+
 bool settings_may_follow(const struct settings *settings, const struct settings *others)
 {
-  bool is_same_at_limit = settings->gate.at_limit == others->gate.at_limit && settings->gate.threshold_millis == others->gate.threshold_millis;
-  const char *key = !is_same_at_limit                                            ? "dmclock-at-limit"
-                    : settings->gate.shares != others->gate.shares               ? "dmclock-shares"
-                    : settings->gate.unit != others->gate.unit                   ? "dmclock-unit"
-                    : settings->gate.idle_seconds != others->gate.idle_seconds   ? "dmclock-idle"
-                    : settings->gate.erase_seconds != others->gate.erase_seconds ? "dmclock-erase"
-                    : settings->is_shared != others->is_shared                   ? "dmclock-default-shared"
-                    : !is_same_text(settings->stats, others->stats)              ? "dmclock-stats"
-                    : !is_same_text(settings->metrics, others->metrics)          ? "dmclock-metrics"
-                                                                                 : NULL;
-  if (key)
-    nbdkit_error("%s can't change while the filter runs", key);
-  return !key;
+  for (int key = 0; key < KEYS; key++) {
+    unsigned line = settings->lines[key];
+    if (is_same(key, settings, others))
+      continue;
+    say_error(settings, line ? line : WHOLE_FILE, "%s%s can't change while the filter runs", keys[key].name, line ? "" : " is missing, and");
+    return false;
+  }
+  return true;
 }
 
 /* ---- what the rates became */

@@ -26,6 +26,11 @@ struct client_setting {
   struct client_setting *next;
 };
 
+enum settings_key {
+  KEY_CLIENT, KEY_DEFAULT, KEY_DEFAULT_CLIENTS, KEY_DEFAULT_SHARED, KEY_UNIT, KEY_DEPTH, KEY_AT_LIMIT, KEY_SHARES, KEY_IDLE, KEY_ERASE,
+  KEY_CAPACITY, KEY_STATS, KEY_METRICS, KEY_CONFIG, KEYS
+};
+
 struct settings {
   struct gate_config gate;
   struct client_setting *clients;
@@ -35,6 +40,7 @@ struct settings {
   char *stats, *metrics;       /* files, or NULL */
   char *config;                /* a file with further settings, or NULL */
   unsigned line;               /* the line of that file which is read; 0 if none is */
+  unsigned lines[KEYS];        /* the last line of that file that has each key; 0 if none does */
 };
 
 /* A connection that goes is known to have gone after at most this many nanoseconds, and its requests are cancelled after as many again.
@@ -68,10 +74,11 @@ bool settings_have(const struct settings *, const char *name);
 /* The client of all other names, if they share one. */
 #define SHARED_NAME "dmclock-default"
 
-/* Whether the settings agree with each other, after an error that names those that do not. */
+/* Whether the settings agree with each other, after an error that names those that do not, and the line of the last one. */
 bool settings_agree(const struct settings *);
 
-/* Whether these settings may take the place of others while the filter runs, after an error that names one that may not change. */
+/* Whether these settings may take the place of others while the filter runs, after an error that names one that may not change, and its
+   line. */
 bool settings_may_follow(const struct settings *, const struct settings *others);
 
 /* Logs the rates that became others than were typed, and warns if the reservations are more than the capacity. With -v nbdkit shows the

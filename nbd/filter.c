@@ -241,7 +241,7 @@ static int dmclock_config_complete(nbdkit_next_config_complete *next, nbdkit_bac
 {
   if (given.config)
     is_written();
-  return load(&settings) && settings_agree(&settings) ? next(backend) : -1;
+  return load(&settings) && settings_agree(&settings) && settings_can_write(&settings) ? next(backend) : -1;
 }
 
 /* Ends the start with an error of ours. */

@@ -2,8 +2,10 @@
 #include "report.h"
 
 #include <errno.h>
+#include <fcntl.h>
 #include <stdlib.h>
 #include <string.h>
+#include <sys/stat.h>
 #include <time.h>
 #include <unistd.h>
 
@@ -80,10 +82,36 @@ static int write_file(const char *path, const char *text, size_t length)
   return fclose(file) ? errno : fault;
 }
 
-static int replace_file(const char *path, const char *text, size_t length)
+/* The file beside it; NULL if memory is short. */
+static char *name_beside(const char *path)
 {
   char *beside;
-  if (asprintf(&beside, "%s.new", path) < 0)
+  return asprintf(&beside, "%s.new", path) < 0 ? NULL : beside;
+}
+
+/* A server may start as another user than it runs as. So nothing that is there is followed or changed, and what is made is taken away. */
+const char *report_refusal(const char *path)
+{
+  struct stat found;
+  if (stat(path, &found) == 0 && !S_ISREG(found.st_mode))
+    return "there is something that is no regular file";
+  char *beside = name_beside(path);
+  if (!beside)
+    return strerror(ENOMEM);
+  int file = open(beside, O_WRONLY | O_CREAT | O_NOFOLLOW | O_CLOEXEC, 0666);
+  const char *reason = file == -1 ? strerror(errno) : NULL;
+  if (file != -1) {
+    close(file);
+    unlink(beside);
+  }
+  free(beside);
+  return reason;
+}
+
+static int replace_file(const char *path, const char *text, size_t length)
+{
+  char *beside = name_beside(path);
+  if (!beside)
     return ENOMEM;
   int fault = write_file(beside, text, length);
   if (!fault && rename(beside, path))

@@ -30,6 +30,9 @@ bool report_take(struct gate *, struct report *);
 
 void report_free(struct report *);
 
+/* Why this file could not be written now, by the same way; NULL if it could. Nothing of it is left. */
+const char *report_refusal(const char *path);
+
 /* Writes what `put` writes of the report to a file, by way of another one beside it: who reads the file sees a whole one. Returns 0,
    or an errno. */
 int report_write(const struct report *, void (*put)(FILE *, const struct report *), const char *path);

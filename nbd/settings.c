@@ -9,6 +9,7 @@
 #include <stdlib.h>
 #include <string.h>
 
+#include "report.h"
 #include "text.h"
 
 #define NBDKIT_API_VERSION 2
@@ -506,6 +507,20 @@ bool settings_agree(const struct settings *settings)
     return false;
   }
   return true;
+}
+
+static bool can_write(const struct settings *settings, enum settings_key key, const char *path)
+{
+  char printable[PRINTABLE_SIZE];
+  const char *reason = path ? report_refusal(path) : NULL;
+  if (reason)
+    say_error(settings, settings->lines[key], "%s=%s: %s", keys[key].name, text_printable(path, printable), reason);
+  return !reason;
+}
+
+bool settings_can_write(const struct settings *settings)
+{
+  return can_write(settings, KEY_STATS, settings->stats) && can_write(settings, KEY_METRICS, settings->metrics);
 }
 
 static bool is_same_text(const char *one, const char *other)

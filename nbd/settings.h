@@ -77,6 +77,9 @@ bool settings_have(const struct settings *, const char *name);
 /* Whether the settings agree with each other, after an error that names those that do not, and the line of the last one. */
 bool settings_agree(const struct settings *);
 
+/* Whether the files of the statistics and of the metrics can be written, after an error that names one that can't, and why. */
+bool settings_can_write(const struct settings *);
+
 /* Whether these settings may take the place of others while the filter runs, after an error that names one that may not change, and its
    line. */
 bool settings_may_follow(const struct settings *, const struct settings *others);

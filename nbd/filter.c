@@ -13,6 +13,7 @@
 
 #include "gate.h"
 #include "metrics.h"
+#include "serve.h"
 #include "settings.h"
 #include "stats.h"
 #include "text.h"
@@ -22,6 +23,9 @@ static struct settings given = SETTINGS_DEFAULT;
 static struct settings settings;
 static pthread_mutex_t settings_lock = PTHREAD_MUTEX_INITIALIZER;
 static struct gate gate;
+
+/* The socket of the metrics. */
+static struct served served;
 
 /* The thread that writes what is reported, reads the file again, and logs what stops the gate. */
 static pthread_t watcher;
@@ -264,6 +268,17 @@ static int register_clients(void)
   return 0;
 }
 
+/* Listens for those who read the metrics, if they are served at a socket: before nbdkit is in the background, so that who starts it learns
+   why that can't be. */
+static bool listen_for_readers(void)
+{
+  const char *path = settings_metrics_socket(&settings);
+  const char *reason = path ? serve_open(&served, path) : NULL;
+  if (reason)
+    settings_refuse(&settings, KEY_METRICS, settings.metrics, reason);
+  return !reason;
+}
+
 static int dmclock_get_ready(int thread_model)
 {
   if (thread_model != NBDKIT_THREAD_MODEL_PARALLEL) {
@@ -275,7 +290,7 @@ static int dmclock_get_ready(int thread_model)
     fault = gate_open(&gate, &settings.gate);
   if (fault)
     return is_failed("the queue", fault);
-  if (register_clients() == -1)
+  if (register_clients() == -1 || !listen_for_readers())
     return -1;
   settings_log(&settings);
   return 0;
@@ -359,13 +374,23 @@ static void write_reports(void)
 {
   static int stats_fault, metrics_fault;
   struct report report;
-  if (!settings.stats && !settings.metrics)
+  const char *metrics = settings_metrics_file(&settings);
+  if (!settings.stats && !metrics)
     return;
   if (report_take(&gate, &report)) {
     report_to(&report, stats_put, "dmclock-stats", settings.stats, &stats_fault);
-    report_to(&report, metrics_put, "dmclock-metrics", settings.metrics, &metrics_fault);
+    report_to(&report, metrics_put, "dmclock-metrics", metrics, &metrics_fault);
   }
   report_free(&report);
+}
+
+/* The metrics as they are now, for a reader. */
+static char *metrics_text(size_t *length)
+{
+  struct report report;
+  char *text = report_take(&gate, &report) ? report_text(&report, metrics_put, length) : NULL;
+  report_free(&report);
+  return text;
 }
 
 /* Logs the first request that the queue refused as it should refuse none. Others are counted alone, lest they fill the log. */
@@ -420,7 +445,8 @@ static int dmclock_after_fork(nbdkit_backend *backend)
   if (fault)
     return is_failed("the watcher", fault);
   has_watcher = true;
-  return 0;
+  fault = served.is_open ? serve_start(&served, metrics_text) : 0;
+  return fault ? is_failed("the metrics", fault) : 0;
 }
 
 static void dmclock_cleanup(nbdkit_backend *backend)
@@ -429,6 +455,7 @@ static void dmclock_cleanup(nbdkit_backend *backend)
   gate_stop(&gate, ESHUTDOWN);
   if (has_watcher)
     pthread_join(watcher, NULL);
+  serve_close(&served);
   while (connections)
     free_connection(connections);
   gate_close(&gate);
@@ -608,7 +635,7 @@ static struct nbdkit_filter filter = {
     "dmclock-erase=SECONDS                         Without a request for so long, one of the default is forgotten (default 900).\n"
     "dmclock-capacity=N                            Warn if the reservations are more a second than this.\n"
     "dmclock-stats=FILE                            A line of JSON a client, every second.\n"
-    "dmclock-metrics=FILE                          The same for Prometheus.\n"
+    "dmclock-metrics=FILE|unix:PATH                The same for Prometheus, in a file or over a Unix socket.\n"
     "dmclock-config=FILE                           Further settings, one a line, read again if they change.",
   .unload = dmclock_unload,
   .config = dmclock_config,

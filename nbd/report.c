@@ -70,7 +70,20 @@ bool report_take(struct gate *gate, struct report *report)
   return report->count == clients;
 }
 
-/* ---- files */
+/* ---- texts and files */
+
+char *report_text(const struct report *report, void (*put)(FILE *, const struct report *), size_t *length)
+{
+  char *text = NULL;
+  FILE *stream = open_memstream(&text, length);
+  if (!stream)
+    return NULL;
+  put(stream, report);
+  if (fclose(stream) == 0)
+    return text;
+  free(text);
+  return NULL;
+}
 
 static int write_file(const char *path, const char *text, size_t length)
 {
@@ -124,13 +137,9 @@ static int replace_file(const char *path, const char *text, size_t length)
 
 int report_write(const struct report *report, void (*put)(FILE *, const struct report *), const char *path)
 {
-  char *text = NULL;
-  size_t length = 0;
-  FILE *stream = open_memstream(&text, &length);
-  if (!stream)
-    return ENOMEM;
-  put(stream, report);
-  int fault = fclose(stream) ? ENOMEM : replace_file(path, text, length);
+  size_t length;
+  char *text = report_text(report, put, &length);
+  int fault = text ? replace_file(path, text, length) : ENOMEM;
   free(text);
   return fault;
 }

@@ -30,6 +30,9 @@ bool report_take(struct gate *, struct report *);
 
 void report_free(struct report *);
 
+/* What `put` writes of the report, in memory that the caller frees. NULL if memory is short. */
+char *report_text(const struct report *, void (*put)(FILE *, const struct report *), size_t *length);
+
 /* Why this file could not be written now, by the same way; NULL if it could. Nothing of it is left. */
 const char *report_refusal(const char *path);
 

@@ -10,6 +10,7 @@
 #include <string.h>
 
 #include "report.h"
+#include "serve.h"
 #include "text.h"
 
 #define NBDKIT_API_VERSION 2
@@ -326,9 +327,38 @@ static int set_stats(struct settings *settings, const char *key, const char *val
   return set_path(settings, &settings->stats, key, value);
 }
 
+/* What is before the path of a socket. The name of a file begins with a slash once it is read. */
+#define SOCKET "unix:"
+
+static int set_metrics_socket(struct settings *settings, const char *key, const char *value)
+{
+  const char *path = value + strlen(SOCKET);
+  char *absolute = *path ? nbdkit_absolute_path(path) : NULL, *text = NULL;
+  bool is_path = absolute && strlen(absolute) <= MOST_SOCKET_PATH;
+  if (is_path && asprintf(&text, SOCKET "%s", absolute) < 0)
+    text = NULL;
+  free(absolute);
+  if (!is_path || !text)
+    return is_bad(settings, key, value, is_path ? "more memory" : "a path of 1 to 107 bytes after unix:");
+  free(settings->metrics);
+  settings->metrics = text;
+  return 1;
+}
+
 static int set_metrics(struct settings *settings, const char *key, const char *value)
 {
-  return set_path(settings, &settings->metrics, key, value);
+  bool is_socket = strncmp(value, SOCKET, strlen(SOCKET)) == 0;
+  return is_socket ? set_metrics_socket(settings, key, value) : set_path(settings, &settings->metrics, key, value);
+}
+
+const char *settings_metrics_file(const struct settings *settings)
+{
+  return settings->metrics && *settings->metrics == '/' ? settings->metrics : NULL;
+}
+
+const char *settings_metrics_socket(const struct settings *settings)
+{
+  return settings->metrics && *settings->metrics != '/' ? settings->metrics + strlen(SOCKET) : NULL;
 }
 
 /* Each key, and what reads its value: as `settings_read`. */
@@ -509,18 +539,23 @@ bool settings_agree(const struct settings *settings)
   return true;
 }
 
-static bool can_write(const struct settings *settings, enum settings_key key, const char *path)
+void settings_refuse(const struct settings *settings, enum settings_key key, const char *value, const char *reason)
 {
   char printable[PRINTABLE_SIZE];
+  say_error(settings, settings->lines[key], "%s=%s: %s", keys[key].name, text_printable(value, printable), reason);
+}
+
+static bool can_write(const struct settings *settings, enum settings_key key, const char *path)
+{
   const char *reason = path ? report_refusal(path) : NULL;
   if (reason)
-    say_error(settings, settings->lines[key], "%s=%s: %s", keys[key].name, text_printable(path, printable), reason);
+    settings_refuse(settings, key, path, reason);
   return !reason;
 }
 
 bool settings_can_write(const struct settings *settings)
 {
-  return can_write(settings, KEY_STATS, settings->stats) && can_write(settings, KEY_METRICS, settings->metrics);
+  return can_write(settings, KEY_STATS, settings->stats) && can_write(settings, KEY_METRICS, settings_metrics_file(settings));
 }
 
 static bool is_same_text(const char *one, const char *other)

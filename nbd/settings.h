@@ -37,7 +37,8 @@ struct settings {
   bool has_default, is_shared; /* whether other names are taken, and whether all of them are one client */
   struct rates_setting others; /* of dmclock-default */
   struct typed_rate capacity;
-  char *stats, *metrics;       /* files, or NULL */
+  char *stats;                 /* a file, or NULL */
+  char *metrics;               /* a file, or unix: and the path of a socket, or NULL */
   char *config;                /* a file with further settings, or NULL */
   unsigned line;               /* the line of that file which is read; 0 if none is */
   unsigned lines[KEYS];        /* the last line of that file that has each key; 0 if none does */
@@ -76,6 +77,13 @@ bool settings_have(const struct settings *, const char *name);
 
 /* Whether the settings agree with each other, after an error that names those that do not, and the line of the last one. */
 bool settings_agree(const struct settings *);
+
+/* The file of the metrics, or the path of the socket that they are served at; NULL if there is none. */
+const char *settings_metrics_file(const struct settings *);
+const char *settings_metrics_socket(const struct settings *);
+
+/* Says what is wrong with a setting that has this value. */
+void settings_refuse(const struct settings *, enum settings_key, const char *value, const char *reason);
 
 /* Whether the files of the statistics and of the metrics can be written, after an error that names one that can't, and why. */
 bool settings_can_write(const struct settings *);

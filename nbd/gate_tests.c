@@ -712,7 +712,7 @@ static void overtaken(void (*when_asked)(struct guest *), int fault, uint64_t gr
   bool has_waited;
   CHECK(gate_open(&gate, &one_at_once) == 0 && gate_start(&gate) == 0 && gate_client(&gate, "a", &none, true, &client) == 0);
   CHECK(enter_for(&gate, client, 0, &has_waited) == 0);
-  queue_call(&call, &gate, client, &guest, 0);
+  begin_call(&call, &gate, client, &guest, 0); /* which waits until it is asked, and may be granted before a look finds it queued */
   CHECK(end_of(&call) == fault);
   CHECK(client->grants[DMC_PRIORITY] == grants && client->cancelled == 0 && client->requests == 2);
   CHECK(gate.under_way == (grants == 2 ? 0 : 1));

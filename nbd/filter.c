@@ -315,6 +315,13 @@ static void block_hangup(void)
   pthread_sigmask(SIG_BLOCK, &hangup, NULL);
 }
 
+/* Whether the file is to be read again. Both questions are asked, since each is true once. */
+static bool is_changed(void)
+{
+  bool is_wanted = is_asked();
+  return is_written() || is_wanted;
+}
+
 /* Gives a client other rates. */
 static void change(const char *name, const struct rates *rates, bool is_kept)
 {
@@ -426,7 +433,7 @@ static void *watch(void *unused)
     log_refusal();
     if (is_stopped)
       log_stop();
-    else if (given.config && (is_asked() | is_written()))
+    else if (given.config && is_changed())
       read_again();
     write_reports();
   }

@@ -6,7 +6,7 @@ help:
 program:
 	scripts/build
 
-# Every test: the gate, and then the parts that are built upon what it proved. It installs packages that are missing, but with INSTALL=0.
+# Every test: the gate, and then the parts that are built upon what it proved. INSTALL=1 installs packages that are missing.
 test:
 	scripts/test
 

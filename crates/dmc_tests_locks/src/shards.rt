@@ -2,7 +2,7 @@
 ghost use Rattle.std.specs.Prelude.{◌≡◌};
 
 use crate::same::assert_same;
-use crate::setup::Lock;
+use crate::setup::{Lock, grant};
 use dmc_book::fault::{AdmitFault, SubmitCause};
 use dmc_book::pass::WorkerPass;
 use dmc_ledger::desk::ClientDesk;
@@ -15,13 +15,14 @@ use dmc_sharded::fault::{ArriveFault, UnitCause, UnitFault};
 use dmc_sharded::lock::{ArrivalLock, ArrivalStatus};
 use dmc_sharded::server::ShardedServer;
 use dmc_shards::status::ShardStatus;
+use dmc_tag::reply::Pulled;
 use dmc_tests_setup::calls::register;
 use dmc_tests_setup::opening::{
     Book, LONG, ONE, SEVEN, ZERO, both, only, open_book, push, wait_config,
 };
 use dmc_tracker::counts::Counts;
 use dmc_tracker::tracker::TrackFault;
-use dmc_types::ids::{ClientId, ServerId, Token};
+use dmc_types::ids::{ClientId, ServerId, Token, WorkerId};
 use dmc_types::moment::Moment;
 use dmc_types::params::ReqParams;
 use std::alloc::Global;
@@ -36,6 +37,8 @@ const FIRST: ServerId = ServerId(0);
 const SECOND: ServerId = ServerId(1);
 
 const NO_SHARD: ServerId = ServerId(2);
+
+const EIGHT: WorkerId = WorkerId(8);
 
 /// More events than a test has.
 const MANY: u32 = 99;
@@ -373,6 +376,38 @@ fn run_leaving<S: Setup, R: Wait>(
 fn worker_leaves_a_shard(rt: HostRuntime) -> Result<(), Fail> {
     let left = run_leaving::<Brand, HostRuntime>(&rt, rt.alloc(), Blank::new(64))?;
     assert_same(&rt, &left, &(false, Some(UnitCause::Stranger), true));
+    Ok(())
+}
+
+/// What a worker that joins the second shard later is granted there.
+fn come_to_second<S: Setup, R: Wait>(
+    rt: &R,
+    alloc: Global,
+    mint: &mut Mint<S>,
+    opened: &mut Opened<S>,
+) -> Result<Pulled, Fail> {
+    submit(rt, opened, SECOND, 1)?;
+    let Some(queue) = opened.server.shard(SECOND) else {
+        return Err(Fail::new("a second shard"));
+    };
+    let mut worker = queue.enrol(rt, alloc, EIGHT, mint)?;
+    Ok(queue.pull(rt, &mut worker, Moment::zero())?)
+}
+
+fn run_coming<S: Setup, R: Wait>(rt: &R, alloc: Global, blank: Blank) -> Result<Pulled, Fail>
+    requires { blank.name ≡ S.name }
+{
+    let mut mint = blank.open::<S>();
+    let mut opened = open(rt, alloc, &mut mint, MANY)?;
+    let pulled = come_to_second(rt, alloc, &mut mint, &mut opened);
+    drop(opened);
+    pulled
+}
+
+#[test]
+fn worker_comes_to_a_shard(rt: HostRuntime) -> Result<(), Fail> {
+    let pulled = run_coming::<Brand, HostRuntime>(&rt, rt.alloc(), Blank::new(64))?;
+    assert_same(&rt, &pulled, &grant(ONE, 5));
     Ok(())
 }
 

@@ -9,6 +9,7 @@ use crate::queues::{HZ, serve_deep, serve_queue};
 use crate::shards::{serve_shards, shard_book_count};
 use crate::sharing::serve_shared;
 use crate::sums::sum_tags;
+use dmc_heap::adaptive_index::HeapIndexes;
 use dmc_heap::indexed_heap::IndexedHeap;
 use dmc_heap::tick_indexes::TickIndexes;
 use dmc_index::index::Indexes;
@@ -34,6 +35,8 @@ pub enum Kind {
     ListQueue,
     /// The indexed queue over heaps.
     HeapQueue,
+    /// The same, with ratio tags.
+    RatioQueue,
     /// The indexed queue over heaps, with one client.
     DeepQueue,
     /// The indexed queue over heaps, in batches.
@@ -87,6 +90,7 @@ fn kind_of(word: &str) -> Result<Kind, Fault> {
         "plain" => Ok(Kind::PlainQueue),
         "list" => Ok(Kind::ListQueue),
         "heap" => Ok(Kind::HeapQueue),
+        "ratio-heap" => Ok(Kind::RatioQueue),
         "deep" => Ok(Kind::DeepQueue),
         "alone" => Ok(Kind::LoneQueue),
         "locked" => Ok(Kind::LockedQueue),
@@ -125,6 +129,7 @@ pub fn run_load<R: Threads + Wait + Sync>(
     match load.kind {
         Kind::PlainQueue => run_plain::<TickTag>(rt, load),
         Kind::ListQueue => run_indexed::<TickTag, ListIndexes>(rt, load),
+        Kind::RatioQueue => run_indexed::<RatioTag, HeapIndexes>(rt, load),
         Kind::SharedQueue => run_shared::<R>(rt, threads, load),
         Kind::ShardedServer => run_shards::<R>(rt, threads, load),
         Kind::ListIndex => use_index::<ListIndex<TagRank<TickTag>>>(rt, load),

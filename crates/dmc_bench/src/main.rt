@@ -28,7 +28,7 @@ fn main(rt: HostRuntime) -> ExitCode {
         Ok(()) => ExitCode::SUCCESS,
         Err(Fault::Usage) => {
             let _ = eprintln!(&rt;
-                "usage: dmc_bench plain|list|heap|deep|alone|locked|warm|rotated|shared|shards|list-index|heap-index|ticks|ratios CLIENTS ROUNDS [LIMIT|SHARDS]"
+                "usage: dmc_bench plain|list|heap|ratio-heap|deep|alone|locked|warm|rotated|shared|shards|list-index|heap-index|ticks|ratios CLIENTS ROUNDS [LIMIT|SHARDS]"
             );
             ExitCode::from(2)
         }

@@ -39,6 +39,9 @@ const SERVER: ServerId = ServerId(0);
 /// The most books of a set-up.
 const MOST_BOOKS: u64 = 1 << 32;
 
+/// One less than the turns of a job until it releases its shard's events, of a power of two.
+const TURNS_OF_SEGMENT: u32 = (1 << 14) - 1;
+
 /// A server of shards.
 type Server<T, I, S> = ShardedServer<QueueBook<T, I, S>>;
 
@@ -279,16 +282,30 @@ fn work_all<S: Setup + Send + Sync, R: Threads + Wait + Sync>(
     }
 }
 
-/// Makes the requests of a job, and pulls one after each.
+/// Makes the requests of a job, and pulls one after each. As a server in service does, it releases the shard's events from time to time.
 fn work<T: Tag, I: Indexes<T>, S: Setup, R: Wait>(
     rt: &R,
     server: &Server<T, I, S>,
     job: &mut Job<S>,
 ) {
-    for _ in 0..job.requests {
+    for turn in 0..job.requests {
         if take_turn(rt, server, job).is_err() {
             return;
         }
+        if turn & TURNS_OF_SEGMENT == TURNS_OF_SEGMENT {
+            release(rt, server, job.shard);
+        }
+    }
+}
+
+/// Releases a shard's events as a segment, which is dropped.
+fn release<T: Tag, I: Indexes<T>, S: Setup, R: Wait>(
+    rt: &R,
+    server: &Server<T, I, S>,
+    shard: ServerId,
+) {
+    if let Some(queue) = server.shard(shard) {
+        drop(queue.rotate(rt));
     }
 }
 

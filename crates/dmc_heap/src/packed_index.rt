@@ -6,19 +6,22 @@ use crate::adaptive_index::AdaptiveIndex;
 use dmc_index::index::OrderIndex;
 use dmc_tag::rank::{PackedRank, Rank};
 use std::alloc::{AllocError, Global};
+use std::marker::PhantomData;
 
 /// An index over ranks that are packed when they come in, and unpacked when they go out.
 #[derive(Drop)]
-pub struct PackedIndex<P: Rank> {
+pub struct PackedIndex<R: Rank, P: PackedRank<R>> {
     packed: AdaptiveIndex<P>,
+    marker: PhantomData<R>,
 }
 
-impl<R: Rank, P: PackedRank<R>> OrderIndex<R> for PackedIndex<P> {
+impl<R: Rank, P: PackedRank<R>> OrderIndex<R> for PackedIndex<R, P> {
     ghost slots = { λ index. map (option_map P.rank_of) index.packed };
 
-    fn new(alloc: Global) -> PackedIndex<P> {
+    fn new(alloc: Global) -> PackedIndex<R, P> {
         PackedIndex {
             packed: AdaptiveIndex::new(alloc),
+            marker: PhantomData,
         }
     }
 

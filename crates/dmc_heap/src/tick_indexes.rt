@@ -2,6 +2,7 @@
 
 use crate::packed_index::PackedIndex;
 use dmc_index::index::Indexes;
+use dmc_tag::rank::{LimitRank, ReadyRank, TagRank};
 use dmc_tick::packed::{PackedLimitRank, PackedReadyRank, PackedTagRank};
 use dmc_tick::tick::TickTag;
 
@@ -10,9 +11,9 @@ use dmc_tick::tick::TickTag;
 pub struct TickIndexes;
 
 impl Indexes<TickTag> for TickIndexes {
-    type ReservationIndex = PackedIndex<PackedTagRank>;
+    type ReservationIndex = PackedIndex<TagRank<TickTag>, PackedTagRank>;
 
-    type LimitIndex = PackedIndex<PackedLimitRank>;
+    type LimitIndex = PackedIndex<LimitRank<TickTag>, PackedLimitRank>;
 
-    type WeightIndex = PackedIndex<PackedReadyRank>;
+    type WeightIndex = PackedIndex<ReadyRank<TickTag>, PackedReadyRank>;
 }

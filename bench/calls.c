@@ -1,8 +1,9 @@
 /* The load `heap` of dmc_bench through the C interface: calls CLIENTS ROUNDS [LIMIT]. Its checksum and its lines are those
-   of dmc_bench. */
+   of dmc_bench, and a line `memory` has the bytes that are allocated once each client has one request queued. */
 #include "dmclock.h"
 
 #include <inttypes.h>
+#include <malloc.h>
 #include <stdio.h>
 #include <stdlib.h>
 #include <time.h>
@@ -13,6 +14,11 @@ static uint64_t nanos(void) {
   struct timespec t;
   clock_gettime(CLOCK_MONOTONIC, &t);
   return (uint64_t)t.tv_sec * 1000000000u + (uint64_t)t.tv_nsec;
+}
+
+static uint64_t allocated(void) {
+  const struct mallinfo2 info = mallinfo2();
+  return info.uordblks + info.hblkhd;
 }
 
 static void tell(const char *part, uint32_t calls, uint64_t taken) {
@@ -70,6 +76,7 @@ int main(int count, char **words) {
   begun = nanos();
   for (uint32_t id = 0; id < clients; id++) add(&queue, id, 0);
   tell("newcomer", clients, nanos() - begun);
+  tell("memory", clients, allocated());
   printf("%" PRIu64 "\n", serve(&queue, clients, rounds, limit));
   dmc_queue_free(&queue);
   return 0;

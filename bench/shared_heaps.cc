@@ -4,6 +4,7 @@
 #include <cstdio>
 #include <cstdlib>
 #include <ctime>
+#include <malloc.h>
 
 namespace {
 
@@ -61,5 +62,7 @@ int main(int count, char **words) {
   const double least = queue.least_proportion();
   for (std::uint32_t id = 1; id < clients; id++) queue.add_newcomer(id, id, 0, least);
   print("newcomer", clients, nanos() - begun);
+  const struct mallinfo2 info = mallinfo2();
+  print("memory", clients, info.uordblks + info.hblkhd);
   std::printf("%llu\n", static_cast<unsigned long long>(serve(queue, clients, rounds, limit)));
 }

@@ -4,6 +4,7 @@
 #   bench/shared_heaps.sh counts  instructions, and misses of a first cache of 32 kB and of a last one of 1 MB, by cachegrind, as the
 #                                 difference of runs of two lengths; other work on the machine does not change them
 #   bench/shared_heaps.sh times   the median ratio of the nanoseconds of 15 runs in turn, with the quarters
+#   bench/shared_heaps.sh memory  bytes that are allocated for a client with one request queued
 # Build the library first: make c
 set -eu
 cd "$(dirname "$0")/.."
@@ -35,6 +36,17 @@ time_in_turn() {
     { ratio[NR] = $1; c[NR] = $2; cc[NR] = $3 }
     END { printf "time %.2f (%.2f to %.2f), about %.0f ns to %.0f\n", ratio[8], ratio[4], ratio[12], c[8], cc[8] }'
 }
+# the bytes of a client, as the difference of two runs: PROGRAM FEW MANY
+bytes() {
+  for clients in "$2" "$3"; do
+    "$1" "$clients" 1 2>&1 > /dev/null | awk '$1 == "memory" { print $2, $3 }'
+  done | awk 'NR == 1 { clients = $1; bytes = $2 } NR == 2 { printf "%d", ($2 - bytes) / ($1 - clients) }'
+}
+if [ "${1:-times}" = memory ]; then
+  # The numbers are powers of two, and tables that grow by doubling are full then.
+  echo "a client with one request queued: $(bytes "$folder/c" 1024 65536) bytes, in C++ $(bytes "$folder/cc" 1024 65536)"
+  exit
+fi
 for limit in "" 10 100; do
   for clients in 2 10 100 1000 10000 65536; do
     printf "limit %s, %d clients: " "${limit:-none}" "$clients"

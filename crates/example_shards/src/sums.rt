@@ -32,26 +32,39 @@ impl Sums {
 
     /// Adds the stamp of a request that was taken.
     fn add_event(&mut self, event: Event<TickTag>) -> Result<()> {
-        let Reply::Tagged(_) = event.reply else {
-            return Ok(());
-        };
-        match event.command {
-            Command::Add { client, params, .. } => self.add(client, params),
-            _ => bail!("tags for what is no request"),
+        match (added(&event.command), event.reply) {
+            (Some((client, counts)), Reply::Tagged(_)) => self.add(client, counts),
+            _ => Ok(()),
         }
     }
 
-    fn add(&mut self, client: ClientId, params: ReqParams) -> Result<()> {
+    fn add(&mut self, client: ClientId, counts: Counts) -> Result<()> {
         let Some(sum) = self.of_clients.get_mut(client.0 as usize) else {
             bail!("an unknown client");
         };
-        sum.delta = sum.delta.saturating_add(u64::from(params.delta()));
-        sum.rho = sum.rho.saturating_add(u64::from(params.rho()));
+        sum.delta = sum.delta.saturating_add(counts.delta);
+        sum.rho = sum.rho.saturating_add(counts.rho);
         Ok(())
     }
 
     /// The sums of a client.
     pub fn of_client(&self, place: usize) -> Option<Counts> {
         self.of_clients.get(place).copied()
+    }
+}
+
+/// The client of an add, and what its stamp counts.
+fn added(command: &Command) -> Option<(ClientId, Counts)> {
+    match command {
+        Command::Add { client, params, .. } => Some((*client, counts_of(params))),
+        _ => None,
+    }
+}
+
+/// What a stamp counts.
+fn counts_of(params: &ReqParams) -> Counts {
+    Counts {
+        delta: u64::from(params.delta()),
+        rho: u64::from(params.rho()),
     }
 }

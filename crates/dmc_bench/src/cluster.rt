@@ -17,6 +17,7 @@ use dmc_ledger::desk::{BOOKS_PER_PAIR, ClientDesk, ServerDesk, open_pair};
 use dmc_ledger::mint::Mint;
 use dmc_ledger::setup::Setup;
 use dmc_ledger::stamp::Stamp;
+use dmc_ledger::unit::Unit;
 use dmc_qlock::lock::QueueLock;
 use dmc_tag::reply::Pulled;
 use dmc_tag::tag::Tag;
@@ -265,8 +266,12 @@ pub fn pull<T: Tag, I: Indexes<T>, S: Setup, R: Wait>(
 }
 
 /// Returns the unit of a grant to its client's tracker.
-pub fn respond<S: Setup>(pass: &mut WorkerPass<S>, client: &mut Client<S>) -> Result<(), Fault> {
-    let Some(unit) = pass.take_unit() else {
+pub fn respond<S: Setup>(
+    pass: &mut WorkerPass<S>,
+    clients: &mut [Client<S>],
+    unit: Unit,
+) -> Result<(), Fault> {
+    let Some(client) = clients.get_mut(unit.client().0 as usize) else {
         return Err(Fault::Usage);
     };
     let Some(tills) = pass.grant_tills(unit.client(), unit.phase()) else {

@@ -12,6 +12,7 @@ use dmc_book::pass::WorkerPass;
 use dmc_index::index::Indexes;
 use dmc_ledger::mint::Blank;
 use dmc_ledger::setup::Setup;
+use dmc_ledger::unit::Unit;
 use dmc_qlock::lock::QueueLock;
 use dmc_tag::scheduler::Scheduler;
 use dmc_tag::tag::Tag;
@@ -58,6 +59,15 @@ fn mix_all(checksum: u64, granted: &[ClientId]) -> u64 {
     let mut checksum = checksum;
     for client in granted {
         checksum = mixed(checksum, u64::from(client.0));
+    }
+    checksum
+}
+
+/// A checksum with the ids of the clients of these units in it.
+fn mix_units(checksum: u64, granted: &[Unit]) -> u64 {
+    let mut checksum = checksum;
+    for unit in granted {
+        checksum = mixed(checksum, u64::from(unit.client().0));
     }
     checksum
 }
@@ -119,7 +129,6 @@ fn serve_batches<T: Tag, I: Indexes<T>, S: Setup, R: Wait>(
     for batch in 0..batch_count(load) {
         let at = moment_of(batch)?;
         taken = serve_batch(rt, waiter, lock, pass, clients, at, taken, &mut granted)?;
-        granted.clear();
         if load.kind == Kind::RotatedQueue {
             release(waiter, lock, load.clients, batch);
         }
@@ -153,7 +162,7 @@ fn serve_batch<T: Tag, I: Indexes<T>, S: Setup, R: Wait>(
     clients: &mut [Client<S>],
     at: Moment,
     taken: Taken,
-    granted: &mut Vec<ClientId>,
+    granted: &mut Vec<Unit>,
 ) -> Result<Taken, Fault> {
     stamp_each(clients)?;
     let begun = start(rt)?;
@@ -162,11 +171,12 @@ fn serve_batch<T: Tag, I: Indexes<T>, S: Setup, R: Wait>(
     let begun = start(rt)?;
     pull_each(waiter, lock, pass, clients.len(), at, granted)?;
     let pulling = add_since(rt, begun, taken.pulling)?;
-    respond_each(pass, clients)?;
+    let checksum = mix_units(taken.checksum, granted.as_slice());
+    respond_each(pass, clients, granted)?;
     Ok(Taken {
         submitting,
         pulling,
-        checksum: mix_all(taken.checksum, granted.as_slice()),
+        checksum,
     })
 }
 
@@ -191,7 +201,7 @@ fn submit_each<T: Tag, I: Indexes<T>, S: Setup, R: Wait>(
     Ok(())
 }
 
-/// Pulls this often, and notes whose requests were granted.
+/// Pulls this often, and takes the unit of each grant.
 #[inline(never)]
 fn pull_each<T: Tag, I: Indexes<T>, S: Setup, R: Wait>(
     waiter: &R,
@@ -199,23 +209,27 @@ fn pull_each<T: Tag, I: Indexes<T>, S: Setup, R: Wait>(
     pass: &mut WorkerPass<S>,
     count: usize,
     at: Moment,
-    granted: &mut Vec<ClientId>,
+    granted: &mut Vec<Unit>,
 ) -> Result<(), Fault> {
     for _ in 0..count {
-        if let Some(client) = pull(waiter, lock, pass, at) {
-            granted.push(client)?;
+        if pull(waiter, lock, pass, at).is_none() {
+            continue;
+        }
+        if let Some(unit) = pass.take_unit() {
+            granted.push(unit)?;
         }
     }
     Ok(())
 }
 
-/// Each client was granted its request.
+/// Returns the units that were taken. None is left.
 fn respond_each<S: Setup>(
     pass: &mut WorkerPass<S>,
     clients: &mut [Client<S>],
+    granted: &mut Vec<Unit>,
 ) -> Result<(), Fault> {
-    for client in clients.iter_mut() {
-        respond(pass, client)?;
+    while let Some(unit) = granted.pop() {
+        respond(pass, clients, unit)?;
     }
     Ok(())
 }

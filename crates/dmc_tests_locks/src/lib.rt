@@ -20,6 +20,8 @@ mod settling;
 #[cfg(test)]
 mod setup;
 #[cfg(test)]
+mod shard_workers;
+#[cfg(test)]
 mod shards;
 #[cfg(test)]
 mod threads;
